@@ -1,0 +1,34 @@
+// Tie orders: which of two entries comes first. The earlier deadline always does;
+// an order only decides between equal deadlines.
+ghost use mathlib.Core.Bool.{Bool};
+ghost use mathlib.Core.Path.{_≡_};
+ghost use Rattle.order.specs.declared.entries.Entry.{Entry};
+ghost use Rattle.order.specs.Orders.{Lawful, byNumber};
+use crate::entries::Entry;
+
+// An order on entries of different numbers.
+pub trait TieOrder {
+    // `before a b`: a is served before b
+    ghost before: { Entry → Entry → Bool };
+
+    // of two entries exactly one comes first, orders chain, the earlier deadline comes first
+    law lawful: { Lawful before };
+
+    fn comes_before(a: Entry, b: Entry) -> bool
+        ensures { λ r. ⌜ r ≡ before a b ⌝ };
+}
+
+// Ties go to the lower number.
+pub struct ByNumber;
+
+pub impl TieOrder for ByNumber as ByNumberOrder {
+    ghost before = { byNumber };
+
+    fn comes_before(a: Entry, b: Entry) -> bool {
+        if a.deadline == b.deadline {
+            a.number < b.number
+        } else {
+            a.deadline < b.deadline
+        }
+    }
+}
