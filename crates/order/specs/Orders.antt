@@ -1,9 +1,13 @@
 -- What a tie order keeps, and the tie orders that are delivered, each as one test on two entries.
-use lib.Dec.{eqb, ltb}
-use mathlib.Core.Bool.{Bool, true, cond, not}
+use lib.Dec.{eqb, leb, ltb}
+use mathlib.Core.Bool.{Bool, true, cond, not, _&&_}
 use mathlib.Core.Path.{_≡_}
-use Prim.Native.Nat.{_<_}
+use Prim.Native.Nat.{ℕ, _<_}
 use Rattle.order.specs.declared.entries.Entry.{Entry}
+
+-- a task number is 1 to 64
+abbrev pub inRange : ℕ → Bool
+inRange number = ltb 0 number && leb number 64
 
 -- entries of different tasks
 abbrev pub Apart : Entry → Entry → Type 0

@@ -7,8 +7,9 @@ use mathlib.Core.Logic.{_⊎_, inl, inr, ⊎-elim, _≢_}
 use mathlib.Core.Path.{_≡_, refl, sym, ap, subst, _∙_}
 use native.Mathlib.Omega.{arith}
 use Prim.Native.Nat.{ℕ, _+_, _-_, _<_, _≤_}
+use Rattle.order.specs.Orders.{inRange}
 use Rattle.order.specs.declared.entries.Entry.{Entry}
-use Rattle.ready.specs.Held.{Held, PlacedBy, Slotted, entryAt, free, holds, inRange, none}
+use Rattle.ready.specs.Held.{Held, PlacedBy, Slotted, entryAt, free, holds, none}
 use Rattle.std.proofs.shelf.Ways.{tells}
 use Rattle.std.proofs.shelf.Lists.{getD-replicate}
 use Rattle.std.proofs.shelf.Tests.{cases-eq, cond-true}

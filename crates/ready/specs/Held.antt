@@ -1,11 +1,11 @@
 -- The meaning of a ready list: 64 slots, slot k for task number k + 1, each with at most one entry.
 -- Every list is described by these words alone; where an entry lies in a list's own memory is left open.
-use lib.Dec.{eqb, leb, ltb}
 use lib.ListN.{length, getD, set, replicate}
-use mathlib.Core.Bool.{Bool, true, false, cond, _&&_, not}
+use mathlib.Core.Bool.{Bool, true, cond, _&&_, not}
 use mathlib.Core.List.{List}
 use mathlib.Core.Path.{_≡_}
 use Prim.Native.Nat.{ℕ, _+_, _-_, _<_}
+use Rattle.order.specs.Orders.{inRange}
 use Rattle.order.specs.declared.entries.Entry.{Entry}
 use Rattle.std.specs.Iters.{folded}
 use Rattle.std.specs.Options.{isSome}
@@ -19,10 +19,6 @@ Held = List (Option Entry)
 -- nothing
 abbrev pub none : Held
 none = replicate 64 None
-
--- a task number is 1 to 64
-abbrev pub inRange : ℕ → Bool
-inRange number = ltb 0 number && leb number 64
 
 -- the entry of a number, if it is held
 abbrev pub entryAt : Held → ℕ → Option Entry

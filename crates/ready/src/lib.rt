@@ -2,16 +2,9 @@
 // Promises: every list that keeps these contracts serves every caller alike.
 // Knows nothing of how a list is stored, nor of tasks and clocks.
 ghost use mathlib.Core.Path.{_≡_};
-ghost use Rattle.ready.specs.Held.{Held, Least, Slotted, firstOf, free, holds, inRange, none, putIn, takenOut};
+ghost use Rattle.ready.specs.Held.{Held, Least, Slotted, firstOf, free, holds, none, putIn, takenOut};
 use order::entries::Entry;
 use order::ties::TieOrder;
-
-// A task number is 1 to 64.
-pub fn is_task_number(number: u32) -> bool
-    ensures { λ r. ⌜ r ≡ inRange number ⌝ }
-{
-    number > 0 && number <= 64
-}
 
 pub trait ReadyList {
     type Order: TieOrder;

@@ -2,16 +2,27 @@
 // Promises: the meaning of a ready list; put and take out touch one slot, first looks through all.
 // Knows nothing of tasks and clocks.
 ghost use mathlib.Core.Path.{_≡_};
-ghost use Rattle.ready.specs.Held.{Slotted, better as betterOf};
+ghost use Rattle.ready.specs.Held.{Slotted, better as betterOf, none};
 use order::entries::Entry;
+use order::entries::is_task_number;
 use order::ties::TieOrder;
 use ready::ReadyList;
-use ready::is_task_number;
 
 // One slot for each task number; number k lies in slot k - 1.
 pub struct Table<O> {
     slots: [Option<Entry>; 64],
     order: O,
+}
+
+impl<O: TieOrder> Table<O> {
+    pub fn new(order: O) -> Table<O>
+        ensures { λ t. ⌜ t .slots ≡ none ⌝ }
+    {
+        Table {
+            slots: [None; 64],
+            order,
+        }
+    }
 }
 
 // The better of the best entry so far and what one more slot holds.

@@ -16,5 +16,5 @@ returns g c =
     record {
       answer = yes′;
       list = sym (cond-true (free slots (e .number)) (set slots (e .number - 1) (Some e)) slots (sym yes′));
-      memory = slotted-set slots (e .number - 1) (Some e) (c .pre) (λ a is. let same : e ≡ a = cc in ap (λ x. x .number) (sym same) ∙ slot-back slots (e .number) range)
+      memory = slotted-set slots (e .number - 1) (Some e) (c .pre) (λ a is. let same : e ≡ a = cc in ap (λ x. x .number) (sym same) ∙ slot-back slots (e .number) range);
     }

@@ -17,5 +17,5 @@ returns g c =
     record {
       answer = yes′;
       list = sym (cond-true (holds slots n) (set slots (n - 1) None) slots (sym yes′));
-      memory = slotted-set slots (n - 1) None (c .pre) (λ e is. let z : _≡_ {A = ℕ} 0 1 = cc in omega arith)
+      memory = slotted-set slots (n - 1) None (c .pre) (λ e is. let z : _≡_ {A = ℕ} 0 1 = cc in omega arith);
     }

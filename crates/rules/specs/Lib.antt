@@ -1,0 +1,5 @@
+pub mod Admission
+pub mod Jobs
+pub mod Phases
+pub mod Refusals
+pub mod Tasks

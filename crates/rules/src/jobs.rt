@@ -1,0 +1,43 @@
+// A task's jobs: what one is worth, and what follows it at its deadline.
+ghost use mathlib.Core.Path.{_≡_};
+ghost use Prim.Native.Nat.{_≤_, _^_};
+ghost use Rattle.rules.specs.Jobs.{afterDeadline, dueAt, grant as grantOf};
+use crate::phases::Event;
+use crate::tasks::Task;
+
+// The ticks of a job: rate times period in thousandths, rounded down.
+pub fn grant(rate: u32, period: u32) -> u64
+    ensures { λ r. ⌜ r ≡ grantOf rate period ⌝ }
+{
+    rate as u64 * period as u64 / 1000
+}
+
+// A task at its deadline: a leaving one goes, any other gets its next job.
+pub fn after_deadline(task: Task) -> Option<Task>
+    requires { ⌜ task .deadline ≤ 2 ^ 40 ⌝ }
+    ensures { λ r. ⌜ r ≡ afterDeadline task ⌝ }
+{
+    if task.leaving {
+        return None;
+    }
+    let mut next = task;
+    next.phase.step(Event::Deadline);
+    next.release = task.deadline;
+    next.deadline = task.deadline + task.period as u64;
+    next.left = grant(task.rate, task.period);
+    next.ran = 0;
+    Some(next)
+}
+
+// A slot when the clock has come to `clock`: its task's deadline is dealt with if it is due.
+pub fn due_at(clock: u64, slot: Option<Task>) -> Option<Task>
+    requires { ⌜ clock ≤ 2 ^ 40 ⌝ }
+    ensures { λ r. ⌜ r ≡ dueAt clock slot ⌝ }
+{
+    let task = slot?;
+    if task.deadline == clock {
+        after_deadline(task)
+    } else {
+        Some(task)
+    }
+}
