@@ -9,10 +9,10 @@ use native.Mathlib.Omega.{arith}
 use Prim.Native.Nat.{ℕ, _+_, _-_, _<_, _≤_}
 use Rattle.order.specs.Orders.{inRange}
 use Rattle.order.specs.declared.entries.Entry.{Entry}
-use Rattle.ready.specs.Held.{Held, PlacedBy, Slotted, entryAt, free, holds, none}
+use Rattle.ready.specs.Held.{Held, PlacedBy, Slotted, entryAt, free, holds, none, putIn, takenOut}
 use Rattle.std.proofs.shelf.Ways.{tells}
-use Rattle.std.proofs.shelf.Lists.{getD-replicate}
-use Rattle.std.proofs.shelf.Tests.{cases-eq, cond-true}
+use Rattle.std.proofs.shelf.Lists.{getD-replicate, set-getD, set-set}
+use Rattle.std.proofs.shelf.Tests.{cases-bool, cases-eq, cond-false, cond-true, true≢false}
 use Rattle.std.specs.Options.{isSome}
 use Rattle.std.specs.declared.option.Option.{Option}
 use Rattle.std.specs.declared.option.Option.the-variants.{Some, None}
@@ -60,6 +60,37 @@ module _ (held : Held) (number : ℕ) (range : true ≡ inRange number) where
   number-low : 0 < number
   number-low = grind (arith, tells)
 
+  pub number-high : number ≤ 64
+  number-high = grind (arith, tells)
+
   -- the slot of a task number stands just before it
   pub slot-back : number ≡ number - 1 + 1
   slot-back = omega (arith, number-low)
+
+none-from-empty : (x : Option Entry) → isSome x ≡ false → x ≡ None
+none-from-empty None is = refl
+none-from-empty (Some e) is = absurd (true≢false is)
+
+-- take out leaves the slot empty, whether or not it was
+pub taken-set : (held : Held) (number : ℕ) → inRange number ≡ true → takenOut held number ≡ set held (number - 1) None
+taken-set held number range =
+    ⊎-elim
+    (λ (full : isSome (getD held (number - 1) None) ≡ true).
+       cond-true (holds held number) (set held (number - 1) None) held (sym (holds-slot held number (sym range)) ∙ full))
+    (λ (empty : isSome (getD held (number - 1) None) ≡ false).
+       cond-false (holds held number) (set held (number - 1) None) held (sym (holds-slot held number (sym range)) ∙ empty)
+       ∙ (sym (set-getD held (number - 1) None) ∙ ap (set held (number - 1)) (none-from-empty (getD held (number - 1) None) empty)))
+    (cases-bool (isSome (getD held (number - 1) None)))
+
+-- put fills an empty slot
+pub put-set : (held : Held) (e : Entry) → Slotted held → inRange (e .number) ≡ true → putIn (set held (e .number - 1) None) e ≡ set held (e .number - 1) (Some e)
+put-set held e slots range =
+    let n = e .number in
+    let lt : n - 1 < length held = omega (arith, slot-back held n (sym range), slots .many, number-high held n (sym range)) in
+    let empty : false ≡ isSome (getD (set held (n - 1) None) (n - 1) None) = sym (ap isSome (getD-set-same held (n - 1) None None lt)) in
+    cond-true (free (set held (n - 1) None) n) (set (set held (n - 1) None) (n - 1) (Some e)) (set held (n - 1) None) (sym (free-yes (set held (n - 1) None) n (sym range) empty))
+    ∙ set-set held (n - 1) None (Some e)
+
+-- the entry of a task number, as a slot
+pub entry-slot : (held : Held) (number : ℕ) → inRange number ≡ true → entryAt held number ≡ getD held (number - 1) None
+entry-slot held number range = cond-true (inRange number) (getD held (number - 1) None) None range
