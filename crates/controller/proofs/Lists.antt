@@ -25,7 +25,7 @@ same-entry held number is range same = sym (set-getD held (number - 1) None) ∙
 
 -- take out, then put
 pub relisted : (h₀ h₁ h₂ : Held) (number : ℕ) (e : Entry) (is : Option Entry) → Slotted h₀ → inRange number ≡ true → is ≡ Some e → Fits number is
-  → h₁ ≡ takenOut h₀ number → h₂ ≡ putIn h₁ e → h₂ ≡ set h₀ (number - 1) is
+    → h₁ ≡ takenOut h₀ number → h₂ ≡ putIn h₁ e → h₂ ≡ set h₀ (number - 1) is
 relisted h₀ h₁ h₂ number e is slots range some fits out in′ =
     let same : e .number ≡ number = subst (Fits number) some fits in
     let range′ : inRange (e .number) ≡ true = subst (λ n. inRange n ≡ true) (sym same) range in
@@ -60,10 +60,10 @@ in-slot-some place new fits t is = subst (InSlot place) is fits
 
 -- a write to a slot and to its entry keeps the mirror
 pub mirror-set : (tasks : Tasks) (held held′ : Held) (place : ℕ) (new : Option Task) (is : Option Entry) → Mirrors tasks held → InSlot place new → is ≡ entryOf new
-  → held′ ≡ set held (place + 1 - 1) is → Mirrors (set tasks place new) held′
+    → held′ ≡ set held (place + 1 - 1) is → Mirrors (set tasks place new) held′
 mirror-set tasks held held′ place new is m fits entry out =
     record {
       many = length-set tasks place new ∙ m .many;
       placed = placed-set (λ t. t .number) tasks place new (m .placed) (in-slot-some place new fits);
-      same = out ∙ (ap (λ n. set held n is) (place-back place) ∙ (ap (λ h. set h place is) (m .same) ∙ (ap (set (map entryOf tasks) place) entry ∙ sym (map-set entryOf tasks place new))))
+      same = out ∙ (ap (λ n. set held n is) (place-back place) ∙ (ap (λ h. set h place is) (m .same) ∙ (ap (set (map entryOf tasks) place) entry ∙ sym (map-set entryOf tasks place new))));
     }

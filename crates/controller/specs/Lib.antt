@@ -1,1 +1,3 @@
 pub mod Tasks
+pub mod Tied
+pub mod Turns

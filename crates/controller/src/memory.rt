@@ -13,8 +13,6 @@ impl TaskMemory {
     pub fn new() -> TaskMemory
         ensures { λ m. ⌜ m .slots ≡ noTasks ⌝ }
     {
-        TaskMemory {
-            slots: [None; 64],
-        }
+        TaskMemory { slots: [None; 64] }
     }
 }

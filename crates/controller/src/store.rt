@@ -39,7 +39,12 @@ fn relist<L: ReadyList>(list: &mut L, number: u32, was: Option<Entry>, is: Optio
 }
 
 // Writes a slot: the only function that does.
-pub(crate) fn store<L: ReadyList>(memory: &mut TaskMemory, list: &mut L, place: usize, new: Option<Task>)
+pub(crate) fn store<L: ReadyList>(
+    memory: &mut TaskMemory,
+    list: &mut L,
+    place: usize,
+    new: Option<Task>,
+)
     requires place { ⌜ place < 64 ⌝ }
     requires fits { ⌜ InSlot place new ⌝ }
     requires mirror { ⌜ Mirrors (now memory .slots) (L·ReadyList .held (now list)) ⌝ }

@@ -76,10 +76,10 @@ pub taken-set : (held : Held) (number : ℕ) → inRange number ≡ true → tak
 taken-set held number range =
     ⊎-elim
     (λ (full : isSome (getD held (number - 1) None) ≡ true).
-       cond-true (holds held number) (set held (number - 1) None) held (sym (holds-slot held number (sym range)) ∙ full))
+    cond-true (holds held number) (set held (number - 1) None) held (sym (holds-slot held number (sym range)) ∙ full))
     (λ (empty : isSome (getD held (number - 1) None) ≡ false).
-       cond-false (holds held number) (set held (number - 1) None) held (sym (holds-slot held number (sym range)) ∙ empty)
-       ∙ (sym (set-getD held (number - 1) None) ∙ ap (set held (number - 1)) (none-from-empty (getD held (number - 1) None) empty)))
+    cond-false (holds held number) (set held (number - 1) None) held (sym (holds-slot held number (sym range)) ∙ empty)
+    ∙ (sym (set-getD held (number - 1) None) ∙ ap (set held (number - 1)) (none-from-empty (getD held (number - 1) None) empty)))
     (cases-bool (isSome (getD held (number - 1) None)))
 
 -- put fills an empty slot

@@ -2,4 +2,5 @@ pub mod Admission
 pub mod Jobs
 pub mod Phases
 pub mod Refusals
+pub mod Sound
 pub mod Tasks

@@ -1,7 +1,7 @@
 // A task's jobs: what one is worth, and what follows it at its deadline.
 ghost use mathlib.Core.Path.{_≡_};
-ghost use Prim.Native.Nat.{_≤_, _^_};
-ghost use Rattle.rules.specs.Jobs.{afterDeadline, dueAt, grant as grantOf};
+ghost use Prim.Native.Nat.{_^_, _≤_};
+ghost use Rattle.rules.specs.Jobs.{Chargeable, afterDeadline, charged, dueAt, grant as grantOf, leftOf, sooner as soonerOf};
 use crate::phases::Event;
 use crate::tasks::Task;
 
@@ -40,4 +40,35 @@ pub fn due_at(clock: u64, slot: Option<Task>) -> Option<Task>
     } else {
         Some(task)
     }
+}
+
+// The ticks that a slot's task has left.
+pub fn left_of(slot: Option<Task>) -> u64
+    ensures { λ r. ⌜ r ≡ leftOf slot ⌝ }
+{
+    match slot {
+        Some(task) => task.left,
+        None => 0,
+    }
+}
+
+// The sooner of a time and a slot's deadline.
+pub fn sooner(time: u64, slot: Option<Task>) -> u64
+    ensures { λ r. ⌜ r ≡ soonerOf time slot ⌝ }
+{
+    match slot {
+        Some(task) => time.min(task.deadline),
+        None => time,
+    }
+}
+
+// A slot whose task has run `count` ticks of those it had left.
+pub fn charge(count: u64, slot: Option<Task>) -> Option<Task>
+    requires { ⌜ Chargeable count slot ⌝ }
+    ensures { λ r. ⌜ r ≡ charged count slot ⌝ }
+{
+    let mut task = slot?;
+    task.left -= count;
+    task.ran += count;
+    Some(task)
 }

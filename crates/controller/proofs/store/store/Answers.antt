@@ -10,7 +10,7 @@ relist-requires g c κs =
       range = place-range (c .args .place) (c .pre .place);
       held = mirror-entry (c .args .memory .now .slots) (g .L·ReadyList .held (c .args .list .now)) (c .args .place) (c .pre .place) (c .pre .mirror) ∙ sym (c .entry-of .ensures);
       fits = subst (Fits (c .args .place + 1)) (sym (c .entry-of-2 .ensures)) (fits-entry (c .args .place) (c .args .new) (c .pre .fits));
-      memory = c .pre .memory
+      memory = c .pre .memory;
     }
 
 pub returns : need.returns
@@ -18,6 +18,6 @@ returns g c =
     record {
       tasks = refl;
       mirror = mirror-set (c .args .memory .now .slots) (g .L·ReadyList .held (c .args .list .now)) (g .L·ReadyList .held (c .relist .last .list)) (c .args .place) (c .args .new) (c .entry-of-2 .result)
-        (c .pre .mirror) (c .pre .fits) (c .entry-of-2 .ensures) (c .relist .ensures .list);
-      memory = c .relist .ensures .memory
+          (c .pre .mirror) (c .pre .fits) (c .entry-of-2 .ensures) (c .relist .ensures .list);
+      memory = c .relist .ensures .memory;
     }
