@@ -1,4 +1,5 @@
 -- One slot of the ready list, written anew.
+use lib.Dec.{eqb}
 use lib.ListN.{getD, length, length-set, set}
 use mathlib.Core.Bool.{true}
 use mathlib.Core.List.{map}
@@ -11,10 +12,11 @@ use Rattle.order.specs.Orders.{inRange}
 use Rattle.order.specs.declared.entries.Entry.{Entry}
 use Rattle.ready.proofs.Slots.{entry-slot, placed-set, put-set, taken-set}
 use Rattle.ready.specs.Held.{Held, Slotted, entryAt, putIn, takenOut}
+use Rattle.rules.specs.Jobs.{afterDeadline, charged, dueAt, nextJob}
 use Rattle.rules.specs.Tasks.{entryOf, wantsToRun}
 use Rattle.rules.specs.declared.tasks.Task.{Task}
 use Rattle.std.proofs.shelf.Lists.{getD-map, map-set, set-getD}
-use Rattle.std.proofs.shelf.Tests.{cases-bool, cond-false, cond-true}
+use Rattle.std.proofs.shelf.Tests.{cases-bool, cond-both, cond-false, cond-true}
 use Rattle.std.proofs.shelf.Ways.{tells}
 use Rattle.std.specs.declared.option.Option.{Option}
 use Rattle.std.specs.declared.option.Option.the-variants.{Some, None}
@@ -67,3 +69,22 @@ mirror-set tasks held held′ place new is m fits entry out =
       placed = placed-set (λ t. t .number) tasks place new (m .placed) (in-slot-some place new fits);
       same = out ∙ (ap (λ n. set held n is) (place-back place) ∙ (ap (λ h. set h place is) (m .same) ∙ (ap (set (map entryOf tasks) place) entry ∙ sym (map-set entryOf tasks place new))));
     }
+
+-- a slot's task belongs there, and still does when it was charged or its deadline was dealt with
+in-slot : (place : ℕ) (slot : Option Task) → ((t : Task) → slot ≡ Some t → t .number ≡ place + 1) → InSlot place slot
+in-slot place None h = tt
+in-slot place (Some t) h = h t refl
+
+pub in-slot-at : (tasks : Tasks) (held : Held) (place : ℕ) → place < 64 → Mirrors tasks held → InSlot place (getD tasks place None)
+in-slot-at tasks held place lt m = in-slot place (getD tasks place None) (λ t is. m .placed place t (omega (arith, m .many)) is)
+
+pub in-slot-charged : (c place : ℕ) (slot : Option Task) → InSlot place slot → InSlot place (charged c slot)
+in-slot-charged c place None fits = tt
+in-slot-charged c place (Some t) fits = fits
+
+pub in-slot-due : (T place : ℕ) (slot : Option Task) → InSlot place slot → InSlot place (dueAt T slot)
+in-slot-due T place None fits = tt
+in-slot-due T place (Some t) fits =
+    cond-both (eqb (t .deadline) T) (afterDeadline t) (Some t) (InSlot place)
+    (λ e. cond-both (t .leaving) None (Some (nextJob t)) (InSlot place) (λ e. tt) (λ e. fits))
+    (λ e. fits)

@@ -1,3 +1,4 @@
+pub mod Settling
 pub mod Tasks
 pub mod Tied
 pub mod Turns

@@ -5,10 +5,12 @@ use Prim.Native.Nat.{ℕ, _^_, _<_, _≤_}
 use Rattle.controller.specs.Tasks.{Mirrors, Tasks, rates}
 use Rattle.controller.specs.Turns.{begun}
 use Rattle.controller.specs.declared.states.OpenTurn.{OpenTurn}
+use Rattle.controller.specs.declared.states.Resting.{Resting}
 use Rattle.controller.specs.declared.states.Turn.{Turn}
 use Rattle.order.specs.declared.entries.Entry.{Entry}
 use Rattle.ready.specs.Held.{Held, firstOf}
 use Rattle.rules.specs.Sound.{SoundSlot}
+use Rattle.rules.specs.declared.refusals.Refusal.{Refusal}
 use Rattle.std.specs.declared.option.Option.{Option}
 use Rattle.std.specs.declared.option.Option.the-variants.{Some, None}
 use Rattle.std.specs.declared.result.Result.{Result}
@@ -32,6 +34,11 @@ pub record Open (before : Entry → Entry → Bool) (turn : Turn) (tasks : Tasks
 abbrev pub OpenAfter : {E : Type 0} → (Entry → Entry → Bool) → Result OpenTurn E → Tasks → Held → Type 0 → Type 0
 OpenAfter before (Ok open′) tasks held ok = Open before (open′ .turn) tasks held ok
 OpenAfter before (Err back) tasks held ok = Unit {0}
+
+-- after settle the controller rests, or its turn is still open
+abbrev pub AfterSettle : (Entry → Entry → Bool) → Result Resting (OpenTurn × Refusal) → Tasks → Held → Type 0 → Type 0
+AfterSettle before (Ok rest) tasks held ok = Tied (rest .clock) tasks held ok
+AfterSettle before (Err (open′, why)) tasks held ok = Open before (open′ .turn) tasks held ok
 
 -- an entry's number is that of a slot
 abbrev pub InTable : Option Entry → Type 0

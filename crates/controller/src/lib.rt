@@ -3,5 +3,6 @@
 // Knows nothing of how a list is stored, nor of the program that drives it.
 pub mod begin;
 pub mod memory;
+pub mod settle;
 pub mod states;
 mod store;

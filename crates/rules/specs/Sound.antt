@@ -9,6 +9,7 @@ pub record Sound (T : ℕ) (t : Task) : Type 0 where
   -- rate and period are in range, and a job has a tick at least
   pub rateLow : 1 ≤ t .rate
   pub rateHigh : t .rate ≤ 1000
+  pub periodLow : 1 ≤ t .period
   pub periodHigh : t .period ≤ 1000000
   pub worth : 1000 ≤ t .rate * t .period
   -- the current job was released, and its deadline has not come
