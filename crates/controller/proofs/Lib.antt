@@ -1,3 +1,5 @@
+pub mod Admits
 pub mod Lengths
 pub mod Lists
+pub mod Makes
 pub mod Settles

@@ -9,7 +9,7 @@ use native.Mathlib.Omega.{arith}
 use Prim.Native.Nat.{ℕ, _+_, _-_, _^_, _<_, _≤_, min}
 use Rattle.controller.proofs.Lengths.{nearest-after}
 use Rattle.controller.specs.Settling.{Runner, chargedIn}
-use Rattle.controller.specs.Tasks.{Mirrors, Tasks, rateOf, rates}
+use Rattle.controller.specs.Tasks.{Mirrors, Tasks, rates}
 use Rattle.controller.specs.Tied.{Open, Tied}
 use Rattle.controller.specs.Turns.{begun, lengthOf, nearest, runsOf}
 use Rattle.controller.specs.declared.states.Runs.{Runs}
@@ -23,7 +23,7 @@ use Rattle.ready.specs.Held.{Held, Least, Slotted, firstOf}
 use Rattle.rules.proofs.Passing.{Passed, charged-passed, due-sound, few-ticks, passes}
 use Rattle.rules.specs.Jobs.{Chargeable, afterDeadline, charged, dueAt, leftOf, nextJob, sooner}
 use Rattle.rules.specs.Sound.{Sound, SoundSlot}
-use Rattle.rules.specs.Tasks.{entryOf}
+use Rattle.rules.specs.Tasks.{entryOf, rateOf}
 use Rattle.rules.specs.declared.tasks.Task.{Task}
 use Rattle.std.proofs.shelf.Elements.{all-getD, all-map, all-set, all-weaker}
 use Rattle.std.proofs.shelf.Sums.{sumBy-cons, sumBy-set}

@@ -1,3 +1,6 @@
+pub mod Admitting
+pub mod Faults
+pub mod Making
 pub mod Settling
 pub mod Tasks
 pub mod Tied

@@ -5,7 +5,7 @@ use mathlib.Core.Path.{_≡_}
 use Prim.Native.Nat.{ℕ, _+_}
 use Rattle.order.specs.declared.entries.Entry.{Entry}
 use Rattle.ready.specs.Held.{Held, PlacedBy}
-use Rattle.rules.specs.Tasks.{entryOf}
+use Rattle.rules.specs.Tasks.{entryOf, rateOf}
 use Rattle.rules.specs.declared.tasks.Task.{Task}
 use Rattle.std.specs.Options.{isSome}
 use Rattle.std.specs.declared.option.Option.{Option}
@@ -34,11 +34,6 @@ pub record Mirrors (tasks : Tasks) (held : Held) : Type 0 where
   pub many : length tasks ≡ 64
   pub placed : PlacedBy (λ t. t .number) tasks
   pub same : held ≡ map entryOf tasks
-
--- the rate of a slot's task
-abbrev pub rateOf : Option Task → ℕ
-rateOf None = 0
-rateOf (Some t) = t .rate
 
 -- the rates in force of all tasks, leaving, waiting and finished ones too
 abbrev pub rates : Tasks → ℕ

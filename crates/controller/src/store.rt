@@ -3,7 +3,8 @@ ghost use lib.ListN.{length, set};
 ghost use mathlib.Core.Bool.{true};
 ghost use mathlib.Core.Path.{_≡_};
 ghost use Prim.Native.Nat.{_+_, _-_, _<_};
-ghost use Rattle.controller.specs.Tasks.{Fits, InSlot, Mirrors};
+ghost use Rattle.controller.specs.Tasks.{Fits, InSlot, Mirrors, noTasks};
+ghost use Rattle.controller.specs.Tied.{Tied};
 ghost use Rattle.order.specs.Orders.{inRange};
 ghost use Rattle.ready.specs.Held.{Slotted, entryAt};
 use crate::memory::TaskMemory;
@@ -56,4 +57,13 @@ pub(crate) fn store<L: ReadyList>(
     let old = memory.slots[place];
     memory.slots[place] = new;
     relist(list, place as u32 + 1, entry_of(old), entry_of(new));
+}
+
+// Leaves no task and an empty list, whatever the memory held before.
+pub(crate) fn clear<L: ReadyList>(memory: &mut TaskMemory, list: &mut L)
+    ensures tasks { λ _. ⌜ now (memory .exit) .slots ≡ noTasks ⌝ }
+    ensures tied { λ _. ⌜ Tied 0 (now (memory .exit) .slots) (L·ReadyList .held (now (list .exit))) (L·ReadyList .ok (now (list .exit))) ⌝ }
+{
+    memory.slots = [None; 64];
+    list.empty();
 }

@@ -9,7 +9,11 @@ use Rattle.rules.specs.Admission.{admitted, whyNotAdmitted, within}
 use Rattle.rules.specs.Sound.{Sound}
 use Rattle.rules.specs.declared.admission.Reservation.{Reservation}
 use Rattle.std.proofs.shelf.Ways.{tells}
-use Rattle.std.specs.declared.option.Option.the-variants.{None}
+use Rattle.rules.specs.Refusals.{unless}
+use Rattle.rules.specs.declared.refusals.Refusal.{Refusal}
+use Rattle.std.specs.declared.option.Option.{Option}
+use Rattle.std.specs.declared.option.Option.the-variants.{Some, None}
+use Rattle.std.specs.declared.result.Result.the-variants.{Ok}
 
 -- what nothing speaks against
 pub record Admissible (taken : Bool) (rates : ℕ) (asked : Reservation) : Type 0 where
@@ -50,3 +54,8 @@ admitted-sound T taken rates asked a =
       spans = refl;
       bounded = omega arith;
     }
+
+-- an answer that is given is that of nothing speaking against it
+pub unless-ok : {A : Type 0} (why : Option Refusal) (a b : A) → unless why a ≡ Ok b → (why ≡ None) × (a ≡ b)
+unless-ok None a b is = (refl, cc)
+unless-ok (Some why) a b is = let z : _≡_ {A = ℕ} 0 1 = cc in absurd (omega arith)

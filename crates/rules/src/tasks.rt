@@ -1,6 +1,6 @@
 // A task with its current job.
 ghost use mathlib.Core.Path.{_≡_};
-ghost use Rattle.rules.specs.Tasks.{entryOf};
+ghost use Rattle.rules.specs.Tasks.{entryOf, rateOf};
 use crate::phases::Phase;
 use crate::phases::PhaseDebug;
 use crate::phases::PhasePartialEq;
@@ -35,4 +35,14 @@ pub fn entry_of(slot: Option<Task>) -> Option<Entry>
         deadline: task.deadline,
         rate: task.rate,
     })
+}
+
+// The rate that a slot's task has in force.
+pub fn rate_of(slot: Option<Task>) -> u32
+    ensures { λ r. ⌜ r ≡ rateOf slot ⌝ }
+{
+    match slot {
+        Some(task) => task.rate,
+        None => 0,
+    }
 }

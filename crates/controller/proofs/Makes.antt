@@ -1,0 +1,34 @@
+-- How the tasks grow record by record.
+use mathlib.Core.List.{List}
+use mathlib.Core.Path.{_≡_, ap, sym, _∙_}
+use Prim.Native.Nat.{ℕ}
+use Rattle.controller.specs.Making.{afterRecord, enrolled}
+use Rattle.controller.specs.Tasks.{Tasks}
+use Rattle.controller.specs.declared.faults.SheetFault.{SheetFault}
+use Rattle.controller.specs.declared.faults.SheetFault.the-variants.{InRecord}
+use Rattle.sheet.proofs.Laws.{sheet-fault, sheet-none, sheet-record}
+use Rattle.sheet.specs.Records.{RecordValue, andThen, recordAt}
+use Rattle.sheet.specs.Sheets.{sheetFrom}
+use Rattle.sheet.specs.declared.records.RecordFault.{RecordFault}
+use Rattle.std.specs.declared.option.Option.the-variants.{Some, None}
+use Rattle.std.specs.declared.result.Result.{Result}
+use Rattle.std.specs.declared.result.Result.the-variants.{Ok, Err}
+
+module _ (sheet : List ℕ) (place : ℕ) (tasks : Tasks) where
+  -- a record leads on as its own outcome does
+  record-step : (found : RecordValue) (end : ℕ) (after : Result Tasks SheetFault) → recordAt sheet place ≡ Ok (Some (found, end)) → after ≡ afterRecord tasks found
+      → andThen after (λ next. enrolled next (sheetFrom sheet end)) ≡ enrolled tasks (sheetFrom sheet place)
+  record-step found end after here is =
+      ap (λ r. andThen r (λ next. enrolled next (sheetFrom sheet end))) is ∙ sym (ap (enrolled tasks) (sheet-record sheet place found end here))
+
+  pub load-record : (found : RecordValue) (end : ℕ) (next : Tasks) → recordAt sheet place ≡ Ok (Some (found, end)) → Ok next ≡ afterRecord tasks found → enrolled next (sheetFrom sheet end) ≡ enrolled tasks (sheetFrom sheet place)
+  load-record found end next here is = record-step found end (Ok next) here is
+
+  pub load-refused : (found : RecordValue) (end : ℕ) (fault : SheetFault) → recordAt sheet place ≡ Ok (Some (found, end)) → Err fault ≡ afterRecord tasks found → Err fault ≡ enrolled tasks (sheetFrom sheet place)
+  load-refused found end fault here is = record-step found end (Err fault) here is
+
+  pub load-fault : (fault : RecordFault) → recordAt sheet place ≡ Err fault → Err (InRecord fault) ≡ enrolled tasks (sheetFrom sheet place)
+  load-fault fault here = sym (ap (enrolled tasks) (sheet-fault sheet place fault here))
+
+  pub load-none : recordAt sheet place ≡ Ok None → Ok tasks ≡ enrolled tasks (sheetFrom sheet place)
+  load-none here = sym (ap (enrolled tasks) (sheet-none sheet place here))

@@ -1,0 +1,27 @@
+use mathlib.Core.Path.{sym, _∙_}
+use native.Mathlib.Omega.{arith}
+use Rattle.sheet.proofs.Laws.{handed-on, progress, some-record, no-record}
+use Rattle.sheet.proofs.Matches.{match-record, match-none, match-fault}
+use Rattle.sheet.proofs.lookup.find.Needs as need
+
+pub returns-in-Break-found : need.returns-in-Break-found
+returns-in-Break-found c =
+    handed-on _ _ (c .from-residual .ensures .1)
+    ∙ sym (match-fault (c .args .name .now) (c .args .sheet .now) (c .loop-found .first) (c .loop-found .place) _ (sym (c .in-Break-found .ensures tt)))
+    ∙ c .loop-found .inv
+
+pub loop-found-less : need.loop-found-less
+loop-found-less c =
+    let here = some-record (c .args .sheet .now) (c .loop-found .place) _ (c .in-Some .found) (c .in-Continue-found .ensures tt) (c .in-Some .is) in
+    omega (arith, progress _ _ _ _ here)
+
+pub loop-found-again : need.loop-found-again
+loop-found-again c =
+    let here = some-record (c .args .sheet .now) (c .loop-found .place) _ (c .in-Some .found) (c .in-Continue-found .ensures tt) (c .in-Some .is) in
+    sym (match-record (c .args .name .now) (c .args .sheet .now) (c .loop-found .first) (c .loop-found .place) _ _ _ here (c .earlier-first .ensures))
+    ∙ c .loop-found .inv
+
+pub returns : need.returns
+returns c =
+    sym (match-none (c .args .name .now) (c .args .sheet .now) (c .loop-found .first) (c .loop-found .place) (no-record (c .args .sheet .now) (c .loop-found .place) _ (c .in-Continue-found .ensures tt) (c .in-rest .is)))
+    ∙ c .loop-found .inv
