@@ -6,8 +6,10 @@ use Rattle.controller.specs.Making.{afterRecord, enrolled}
 use Rattle.controller.specs.Tasks.{Tasks}
 use Rattle.controller.specs.declared.faults.SheetFault.{SheetFault}
 use Rattle.controller.specs.declared.faults.SheetFault.the-variants.{InRecord}
-use Rattle.sheet.proofs.Laws.{sheet-fault, sheet-none, sheet-record}
-use Rattle.sheet.specs.Records.{RecordValue, andThen, recordAt}
+use Rattle.sheet.proofs.Laws.{advances}
+use Rattle.sheet.proofs.Readings.{reading-entry, reading-fault, reading-none}
+use Rattle.sheet.specs.Readings.{andThen}
+use Rattle.sheet.specs.Records.{RecordValue, recordAt}
 use Rattle.sheet.specs.Sheets.{sheetFrom}
 use Rattle.sheet.specs.declared.records.RecordFault.{RecordFault}
 use Rattle.std.specs.declared.option.Option.the-variants.{Some, None}
@@ -19,7 +21,7 @@ module _ (sheet : List ℕ) (place : ℕ) (tasks : Tasks) where
   record-step : (found : RecordValue) (end : ℕ) (after : Result Tasks SheetFault) → recordAt sheet place ≡ Ok (Some (found, end)) → after ≡ afterRecord tasks found
       → andThen after (λ next. enrolled next (sheetFrom sheet end)) ≡ enrolled tasks (sheetFrom sheet place)
   record-step found end after here is =
-      ap (λ r. andThen r (λ next. enrolled next (sheetFrom sheet end))) is ∙ sym (ap (enrolled tasks) (sheet-record sheet place found end here))
+      ap (λ r. andThen r (λ next. enrolled next (sheetFrom sheet end))) is ∙ sym (ap (enrolled tasks) (reading-entry recordAt advances sheet place found end here))
 
   pub load-record : (found : RecordValue) (end : ℕ) (next : Tasks) → recordAt sheet place ≡ Ok (Some (found, end)) → Ok next ≡ afterRecord tasks found → enrolled next (sheetFrom sheet end) ≡ enrolled tasks (sheetFrom sheet place)
   load-record found end next here is = record-step found end (Ok next) here is
@@ -28,7 +30,7 @@ module _ (sheet : List ℕ) (place : ℕ) (tasks : Tasks) where
   load-refused found end fault here is = record-step found end (Err fault) here is
 
   pub load-fault : (fault : RecordFault) → recordAt sheet place ≡ Err fault → Err (InRecord fault) ≡ enrolled tasks (sheetFrom sheet place)
-  load-fault fault here = sym (ap (enrolled tasks) (sheet-fault sheet place fault here))
+  load-fault fault here = sym (ap (enrolled tasks) (reading-fault recordAt advances sheet place fault here))
 
   pub load-none : recordAt sheet place ≡ Ok None → Ok tasks ≡ enrolled tasks (sheetFrom sheet place)
-  load-none here = sym (ap (enrolled tasks) (sheet-none sheet place here))
+  load-none here = sym (ap (enrolled tasks) (reading-none recordAt advances sheet place here))

@@ -10,8 +10,9 @@ use Rattle.controller.specs.declared.faults.SheetFault.the-variants.{InRecord,
 use Rattle.rules.specs.declared.admission.Reservation.{Reservation}
 use Rattle.rules.specs.declared.refusals.Refusal.{Refusal}
 use Rattle.rules.specs.declared.tasks.Task.{Task}
-use Rattle.sheet.specs.Records.{RecordValue, TaskValue, andThen, note, task}
-use Rattle.sheet.specs.Sheets.{Sheet, broken, done, entry, sheetOf}
+use Rattle.sheet.specs.Readings.{andThen, broken, done, entry}
+use Rattle.sheet.specs.Records.{RecordValue, TaskValue, note, task}
+use Rattle.sheet.specs.Sheets.{Sheet, sheetOf}
 use Rattle.std.specs.Options.{isSome}
 use Rattle.std.specs.declared.option.Option.the-variants.{Some, None}
 use Rattle.std.specs.declared.result.Result.{Result}

@@ -2,7 +2,7 @@
 ghost use mathlib.Core.Path.{_≡_};
 ghost use Rattle.controller.specs.Faults.{placeOf, told as toldOf};
 ghost use Rattle.controller.specs.declared.faults.SheetFault.the-variants.{InRecord};
-ghost use Rattle.sheet.specs.Records.{taskValue};
+ghost use Rattle.sheet.specs.Values.{taskValue};
 use rules::refusals::Refusal;
 use rules::refusals::RefusalDebug;
 use rules::refusals::RefusalPartialEq;

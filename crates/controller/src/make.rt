@@ -6,8 +6,9 @@ ghost use Rattle.controller.specs.Making.{afterRecord, enrolled, made, madeTas
 ghost use Rattle.controller.specs.Tasks.{noTasks};
 ghost use Rattle.controller.specs.Tied.{Tied};
 ghost use Rattle.rules.specs.Tasks.{entryOf};
-ghost use Rattle.sheet.specs.Records.{recordValue, task as taskOf, taskValue};
+ghost use Rattle.sheet.specs.Records.{task as taskOf};
 ghost use Rattle.sheet.specs.Sheets.{sheetOf};
+ghost use Rattle.sheet.specs.Values.{recordValue, taskValue};
 ghost use Rattle.std.specs.Options.{isSome};
 ghost use Rattle.std.specs.shelf.Lists.{countBy};
 use crate::admit::enrol;

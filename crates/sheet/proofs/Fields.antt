@@ -1,17 +1,18 @@
 -- A field is read from the front of what is left, and the rest goes on from there.
-use mathlib.Core.Path.{_≡_, refl, sym, ap, _∙_}
+use mathlib.Core.Path.{_≡_, ap}
 use mathlib.Core.List.{List}
-use Prim.Native.Nat.{ℕ, _+_, _-_, _<_, _≤_, _^_}
+use Prim.Native.Nat.{ℕ, _+_, _-_, _<_, _^_}
 use native.Mathlib.Omega.{arith}
-use lib.ListN.{length, take, drop, length-take, length-drop}
+use lib.ListN.{length, take, drop, length-drop}
 use Rattle.std.specs.declared.result.Result.{Result}
-use Rattle.std.specs.declared.result.Result.the-variants.{Ok, Err}
+use Rattle.std.specs.declared.result.Result.the-variants.{Ok}
 use Rattle.std.proofs.shelf.Lists.{take-rest}
 use Rattle.sheet.specs.declared.numbers.Number.{Number}
 use Rattle.sheet.specs.declared.records.Field.{Field}
 use Rattle.sheet.specs.declared.records.RecordFault.{RecordFault}
 use Rattle.sheet.specs.Numbers.{numberRead}
-use Rattle.sheet.specs.Records.{Left, numberAt, fieldIn}
+use Rattle.sheet.specs.Readings.{Left}
+use Rattle.sheet.specs.Records.{numberAt, fieldIn}
 use Rattle.sheet.proofs.Groups.{number-within}
 
 -- a field and what is left behind it, as the code cuts it off

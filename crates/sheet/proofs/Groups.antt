@@ -1,6 +1,6 @@
 -- The groups of a number, read from the low one up with what they are worth so far.
 use mathlib.Core.Path.{_≡_, refl, sym, ap, _∙_}
-use mathlib.Core.Bool.{Bool, true, false, cond, not, _&&_}
+use mathlib.Core.Bool.{Bool, true, false, not, _&&_}
 use mathlib.Core.List.{List, [], _∷_}
 use Prim.Native.Nat.{ℕ, zero, suc, _+_, _-_, _*_, _^_, _≤_, _<_}
 use native.Mathlib.Nat.{mul-add, mul-assoc, pow-suc}
@@ -49,31 +49,31 @@ one-fewer i h = omega arith
 later : (i : ℕ) → eqb (i + 1) 0 ≡ false
 later i = ne-eqb (i + 1) 0 (λ e. omega arith)
 
--- a number has no fifth group
-pub too-many : (bytes : List ℕ) (place : ℕ) → left bytes place 4 ≡ Err (Malformed place)
-too-many bytes place = refl
-
+-- the bytes end before the group `i`
 pub ends : (bytes : List ℕ) (place i : ℕ) → i < 4 → length bytes ≤ i → left bytes place i ≡ Err (Cut place)
 ends bytes place i h k = rw (one-fewer i h, drop-all i bytes k)
 
 opened : (bytes : List ℕ) (place i : ℕ) → i < 4 → i < length bytes → left bytes place i ≡ groups (suc (4 - (i + 1))) (eqb i 0) (getD bytes i 0 ∷ drop (i + 1) bytes) place
 opened bytes place i h k = rw (one-fewer i h, drop-more bytes i 0 k)
 
--- the last group stands at `i`
 at-last : (w v : ℕ) (bytes : List ℕ) (place i : ℕ) → i < 4 → i < length bytes → getD bytes i 0 < 128 → onto w v i (left bytes place i) ≡ onto w v i (lastGroup (eqb i 0) (getD bytes i 0) place)
 at-last w v bytes place i h k small = ap (onto w v i) (opened bytes place i h k ∙ cond-true _ _ _ (lt-ltb _ _ small))
 
+-- the number whose last group stands at `i`
 pub whole-at : (w v : ℕ) (bytes : List ℕ) (place i : ℕ) → i < 4 → i < length bytes → getD bytes i 0 < 128 → (eqb (getD bytes i 0) 0 && not (eqb i 0)) ≡ false → onto w v i (left bytes place i) ≡ Ok (record { value = v + w * getD bytes i 0; size = i + 1 })
 whole-at w v bytes place i h k small adds = at-last w v bytes place i h k small ∙ ap (onto w v i) (cond-false _ _ _ adds)
 
+-- a last group that adds nothing
 pub longer-at : (w v : ℕ) (bytes : List ℕ) (place i : ℕ) → i < 4 → i < length bytes → getD bytes i 0 < 128 → (eqb (getD bytes i 0) 0 && not (eqb i 0)) ≡ true → onto w v i (left bytes place i) ≡ Err (Malformed place)
 longer-at w v bytes place i h k small adds = at-last w v bytes place i h k small ∙ ap (onto w v i) (cond-true _ _ _ adds)
 
+-- another group follows the one at `i`
 pub at-more : (w v : ℕ) (bytes : List ℕ) (place i : ℕ) → i < 4 → i < length bytes → 128 ≤ getD bytes i 0 → onto w v i (left bytes place i) ≡ onto (w * 128) (v + w * (getD bytes i 0 - 128)) (i + 1) (left bytes place (i + 1))
 at-more w v bytes place i h k large =
     let e = opened bytes place i h k ∙ cond-false _ _ _ (le-ltb _ _ large) in
     ap (onto w v i) e ∙ onto-below w v i _ _ ∙ rw later refl
 
+-- before the first group all is left
 pub whole : (bytes : List ℕ) (place : ℕ) → onto 1 0 0 (left bytes place 0) ≡ numberRead bytes place
 unfolding numberRead
 whole bytes place = from-nothing (groups 4 true bytes place)

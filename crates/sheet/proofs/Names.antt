@@ -1,19 +1,19 @@
 -- The bytes of a name, from left to right.
-use mathlib.Core.Path.{_≡_, refl, sym, ap, _∙_}
+use mathlib.Core.Path.{_≡_, sym, ap, _∙_}
 use mathlib.Core.Logic.{⊎-elim}
-use mathlib.Core.Bool.{true, false, cond, _&&_}
-use mathlib.Core.List.{List, [], _∷_}
+use mathlib.Core.Bool.{true, false}
+use mathlib.Core.List.{List}
 use Prim.Native.Nat.{ℕ, _+_, _-_, _<_, _≤_, min}
 use native.Mathlib.Nat.{add-assoc}
 use native.Mathlib.Omega.{arith}
-use lib.Dec.{leb}
 use lib.ListN.{length, take, drop, getD}
 use Rattle.std.specs.declared.option.Option.{Option}
 use Rattle.std.specs.declared.option.Option.the-variants.{Some, None}
 use Rattle.std.proofs.shelf.Lists.{at-drop-more, at-drop-all, take-all}
 use Rattle.std.proofs.shelf.Tests.{cases-lt, cond-true, cond-false, and-from, le-leb}
 use Rattle.sheet.specs.declared.records.Field.{Field}
-use Rattle.sheet.specs.Records.{Left, nameByte, badByte, unlessBad, textIn, nameIn}
+use Rattle.sheet.specs.Readings.{Left}
+use Rattle.sheet.specs.Records.{nameByte, badByte, unlessBad, textIn, nameIn}
 
 pub bad-here : (bytes : List ℕ) (place i : ℕ) → i < length bytes → nameByte (getD bytes i 0) ≡ false → badByte (drop i bytes) (place + i) ≡ Some (place + i)
 bad-here bytes place i h bad = at-drop-more (λ l. badByte l (place + i)) bytes i 0 h ∙ cond-false _ _ _ bad

@@ -1,3 +1,5 @@
 pub mod Numbers
+pub mod Readings
 pub mod Records
 pub mod Sheets
+pub mod Values

@@ -1,10 +1,9 @@
 -- The records of a sheet. A record is its kind byte and what the kind says of the bytes that follow; they are judged from left to right.
-use mathlib.Core.Bool.{Bool, true, false, cond, _&&_}
+use mathlib.Core.Bool.{Bool, cond, _&&_}
 use mathlib.Core.List.{List, [], _∷_}
 use Prim.Native.Nat.{ℕ, _+_}
 use lib.Dec.{eqb, leb}
 use lib.ListN.{length, take, drop}
-use denote.Ref.{RefT}
 use Rattle.std.specs.declared.option.Option.{Option}
 use Rattle.std.specs.declared.option.Option.the-variants.{Some, None}
 use Rattle.std.specs.declared.result.Result.{Result}
@@ -16,12 +15,8 @@ use Rattle.sheet.specs.declared.records.RecordFault.{RecordFault}
 use Rattle.sheet.specs.declared.records.RecordFault.the-variants.{InNumber, UnknownKind, CutText, BadText}
 use Rattle.sheet.specs.declared.records.Told.{Told}
 use Rattle.sheet.specs.declared.records.Field.{Field}
-use Rattle.sheet.specs.declared.records.TaskRecord.{TaskRecord}
-use Rattle.sheet.specs.declared.records.Record.{Record}
-use Rattle.sheet.specs.declared.records.Record.the-variants.{Task, Note}
-use Rattle.sheet.specs.declared.records.Found.{Found}
-use Rattle.sheet.specs.declared.records.Rest.{Rest}
 use Rattle.sheet.specs.Numbers.{numberRead}
+use Rattle.sheet.specs.Readings.{Left, Reader, andThen, partAt}
 
 -- each fault with its number, its layer (1 for a number, 2 for a record) and its place
 abbrev pub told : RecordFault → Told
@@ -42,16 +37,6 @@ pub record TaskValue : Type 0 where
 pub data RecordValue : Type 0 where
   task : TaskValue → RecordValue
   note : List ℕ → RecordValue
-
--- what is left to read, and the offset of its first byte
-pub record Left : Type 0 where
-  pub bytes : List ℕ
-  pub place : ℕ
-
--- the first fault, or what comes of the value
-abbrev pub andThen : {A B E : Type 0} → Result A E → (A → Result B E) → Result B E
-andThen (Ok x) next = next x
-andThen (Err fault) next = Err fault
 
 -- a number at the front, with its place, and what is left behind it
 abbrev pub numberAt : Left → Result Number NumberFault → Result (Field × Left) RecordFault
@@ -109,38 +94,6 @@ noteIn left =
 abbrev pub bodyIn : ℕ → Left → ℕ → Result (RecordValue × ℕ) RecordFault
 bodyIn kind left place = cond (eqb kind 1) (taskIn left) (cond (eqb kind 2) (noteIn left) (Err (UnknownKind place)))
 
-abbrev pub recordIn : List ℕ → ℕ → Result (Option (RecordValue × ℕ)) RecordFault
-recordIn [] place = Ok None
-recordIn (kind ∷ bytes) place = andThen (bodyIn kind (record { bytes = bytes; place = place + 1 }) place) (λ found. Ok (Some found))
-
 -- the record at an offset of the sheet, with the offset just past it, or none at the end
-unfoldable pub recordAt : List ℕ → ℕ → Result (Option (RecordValue × ℕ)) RecordFault
-recordAt sheet place = recordIn (drop place sheet) place
-
--- what the code hands over, by value
-abbrev pub leftOf : Rest → Left
-leftOf rest = record { bytes = rest .bytes .now; place = rest .place }
-
-abbrev pub fieldOf : Result (Field × Rest) RecordFault → Result (Field × Left) RecordFault
-fieldOf (Ok read) = Ok (read .0, leftOf (read .1))
-fieldOf (Err fault) = Err fault
-
-abbrev pub textOf : Result (RefT (List ℕ)) RecordFault → Result (List ℕ) RecordFault
-textOf (Ok text) = Ok (text .now)
-textOf (Err fault) = Err fault
-
-abbrev pub taskValue : TaskRecord → TaskValue
-taskValue t = record { number = t .number; rate = t .rate; period = t .period; name = t .name .now; namePlace = t .«name_place» }
-
-abbrev pub recordValue : Record → RecordValue
-recordValue (Task t) = task (taskValue t)
-recordValue (Note text) = note (text .now)
-
-abbrev pub foundOf : Result Found RecordFault → Result (RecordValue × ℕ) RecordFault
-foundOf (Ok found) = Ok (recordValue (found .record), found .end)
-foundOf (Err fault) = Err fault
-
-abbrev pub recordOf : Result (Option Found) RecordFault → Result (Option (RecordValue × ℕ)) RecordFault
-recordOf (Ok None) = Ok None
-recordOf (Ok (Some found)) = Ok (Some (recordValue (found .record), found .end))
-recordOf (Err fault) = Err fault
+abbrev pub recordAt : Reader RecordValue RecordFault
+recordAt = partAt bodyIn

@@ -1,7 +1,9 @@
--- A sheet as the list of its records, up to the end or to the first fault, and where a name stands in it.
+-- A sheet as the list of its records, and where a name stands in it.
 use mathlib.Core.Bool.{cond}
 use mathlib.Core.List.{List}
-use Prim.Native.Nat.{ℕ, zero, suc, _-_}
+use mathlib.Core.Logic.{_⊎_}
+use mathlib.Core.Path.{_≡_}
+use Prim.Native.Nat.{ℕ, _<_}
 use lib.ListN.{length}
 use Rattle.std.specs.Options.{orOther}
 use Rattle.std.specs.shelf.Text.{sameBytes}
@@ -10,27 +12,16 @@ use Rattle.std.specs.declared.option.Option.the-variants.{Some, None}
 use Rattle.std.specs.declared.result.Result.{Result}
 use Rattle.std.specs.declared.result.Result.the-variants.{Ok, Err}
 use Rattle.sheet.specs.declared.records.RecordFault.{RecordFault}
+use Rattle.sheet.specs.Readings.{Reading, done, broken, entry, readingFrom}
 use Rattle.sheet.specs.Records.{RecordValue, task, note, recordAt}
 
-pub data Sheet : Type 0 where
-  done : Sheet
-  broken : RecordFault → Sheet
-  entry : RecordValue → Sheet → Sheet
+-- the records from here on, up to the end or to the first fault
+-- a sheet is its records, one after another
+abbrev pub Sheet : Type 0
+Sheet = Reading RecordValue RecordFault
 
--- what was read at a place, and then the sheet from the offset just past it
-abbrev pub readOn : Result (Option (RecordValue × ℕ)) RecordFault → (ℕ → Sheet) → Sheet
-readOn (Ok None) later = done
-readOn (Ok (Some found)) later = entry (found .0) (later (found .1))
-readOn (Err fault) later = broken fault
-
--- at most so many records
-abbrev pub records : ℕ → List ℕ → ℕ → Sheet
-records zero sheet place = done
-records (suc most) sheet place = readOn (recordAt sheet place) (records most sheet)
-
--- the sheet from a place on: each record takes a byte at least, so there are no more records than bytes
-unfoldable pub sheetFrom : List ℕ → ℕ → Sheet
-sheetFrom sheet place = records (length sheet - place) sheet place
+abbrev pub sheetFrom : List ℕ → ℕ → Sheet
+sheetFrom sheet place = readingFrom recordAt sheet place
 
 abbrev pub sheetOf : List ℕ → Sheet
 sheetOf sheet = sheetFrom sheet 0
@@ -50,3 +41,7 @@ abbrev pub foundIn : List ℕ → Sheet → Result (Option ℕ) RecordFault
 foundIn name done = Ok None
 foundIn name (broken fault) = Err fault
 foundIn name (entry r later) = before (named name r) (foundIn name later)
+
+-- bytes that no task has for its name: none, or over 12
+abbrev pub Unfit : List ℕ → Type 0
+Unfit name = (length name ≡ 0) ⊎ (12 < length name)

@@ -4,3 +4,5 @@
 pub mod lookup;
 pub mod numbers;
 pub mod records;
+#[cfg(test)]
+mod tests;

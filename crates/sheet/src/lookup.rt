@@ -1,8 +1,10 @@
 // Where a name stands in a sheet.
 ghost use mathlib.Core.Path.{_≡_};
 ghost use Rattle.std.specs.Options.{orOther};
-ghost use Rattle.sheet.specs.Records.{recordValue};
-ghost use Rattle.sheet.specs.Sheets.{named, foundIn, sheetOf};
+ghost use Rattle.std.specs.Vec.{made};
+ghost use Rattle.std.specs.declared.option.Option.the-variants.{None};
+ghost use Rattle.sheet.specs.Values.{recordValue};
+ghost use Rattle.sheet.specs.Sheets.{Unfit, named, foundIn, sheetOf};
 use crate::records::Record;
 use crate::records::RecordFault;
 use crate::records::record_at;
@@ -32,7 +34,8 @@ fn earlier(first: Option<usize>, candidate: Record, name: &[u8]) -> Option<usize
 
 // The offset of the first task name that equals `name`. A fault anywhere in the sheet counts, also behind a match.
 pub fn find(sheet: &[u8], name: &[u8]) -> Result<Option<usize>, RecordFault>
-    ensures { λ r. ⌜ r ≡ foundIn (now (name .entry)) (sheetOf (now (sheet .entry))) ⌝ }
+    ensures value { λ r. ⌜ r ≡ foundIn (now (name .entry)) (sheetOf (now (sheet .entry))) ⌝ }
+    ensures unfit { λ r. ⌜ (Unfit (now (name .entry)) → made r (λ found. found ≡ None)) ⌝ }
 {
     let mut first = None;
     let mut place = 0;

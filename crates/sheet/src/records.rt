@@ -1,10 +1,11 @@
 // The records of a sheet: tasks and notes, each behind its kind byte.
 ghost use mathlib.Core.Path.{_≡_};
-ghost use Prim.Native.Nat.{ℕ, _+_, _^_, _<_};
+ghost use Prim.Native.Nat.{_+_, _^_, _<_};
 ghost use lib.ListN.{length};
 ghost use Rattle.std.specs.Vec.{made};
 ghost use Rattle.sheet.specs.declared.records.RecordFault.the-variants.{InNumber};
-ghost use Rattle.sheet.specs.Records.{told, leftOf, fieldOf, fieldIn, nameByte, badByte, textOf, textIn, nameIn, foundOf, taskIn, noteTextIn, noteIn, bodyIn, recordOf, recordAt};
+ghost use Rattle.sheet.specs.Records.{told, fieldIn, nameByte, badByte, textIn, nameIn, taskIn, noteTextIn, noteIn, bodyIn, recordAt};
+ghost use Rattle.sheet.specs.Values.{leftOf, fieldOf, textOf, foundOf, recordOf};
 use crate::numbers::Number;
 use crate::numbers::NumberFault;
 use crate::numbers::NumberFaultDebug;
@@ -89,13 +90,13 @@ pub struct Found<'a> {
 
 // What is left to read, and the offset of its first byte.
 #[derive(Clone, Copy)]
-struct Rest<'a> {
-    bytes: &'a [u8],
-    place: usize,
+pub struct Rest<'a> {
+    pub bytes: &'a [u8],
+    pub place: usize,
 }
 
-// Reads a number that no rule of the sheet judges.
-fn read_field<'a>(rest: Rest<'a>) -> Result<(Field, Rest<'a>), RecordFault>
+// Reads a number and keeps where it begins. What it may be is judged by who asks for it.
+pub fn read_field<'a>(rest: Rest<'a>) -> Result<(Field, Rest<'a>), RecordFault>
     requires { ⌜ rest .place + length (now (rest .bytes)) < 2 ^ 64 ⌝ }
     ensures value { λ r. ⌜ fieldOf r ≡ fieldIn (leftOf (rest .entry)) ⌝ }
     ensures room { λ r. ⌜ made r (λ read. read .1 .place + length (now (read .1 .bytes)) < 2 ^ 64) ⌝ }
@@ -233,13 +234,10 @@ pub fn record_at<'a>(sheet: &'a [u8], place: usize) -> Result<Option<Found<'a>>,
     let [kind, rest @ ..] = &sheet[place..] else {
         return Ok(None);
     };
-    let found = read_body(
-        *kind,
-        Rest {
-            bytes: rest,
-            place: place + 1,
-        },
-        place,
-    )?;
+    let rest = Rest {
+        bytes: rest,
+        place: place + 1,
+    };
+    let found = read_body(*kind, rest, place)?;
     Ok(Some(found))
 }

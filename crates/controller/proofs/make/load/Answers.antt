@@ -4,8 +4,9 @@ use Rattle.controller.proofs.Makes.{load-fault, load-none, load-record, load-r
 use Rattle.controller.proofs.make.load.Needs as need
 use Rattle.controller.specs.Making.{withTasks}
 use Rattle.controller.specs.declared.faults.SheetFault.the-variants.{InRecord}
-use Rattle.sheet.proofs.Laws.{handed-on, no-record, progress, some-record}
-use Rattle.sheet.specs.Records.{recordValue}
+use Rattle.sheet.proofs.Laws.{no-record, progress, some-record}
+use Rattle.sheet.proofs.Readings.{handed-on}
+use Rattle.sheet.specs.Values.{recordValue}
 
 pub returns-in-Break-found : need.returns-in-Break-found
 returns-in-Break-found g c =

@@ -1,6 +1,6 @@
 use mathlib.Core.Path.{sym, ap, _∙_}
 use Rattle.std.proofs.shelf.Tests.{cond-true, cond-false}
-use Rattle.sheet.specs.Records.{recordValue}
+use Rattle.sheet.specs.Values.{recordValue}
 use Rattle.sheet.specs.Sheets.{named}
 use Rattle.sheet.proofs.Matches.{same-name}
 use Rattle.sheet.proofs.lookup.name_place.Needs as need

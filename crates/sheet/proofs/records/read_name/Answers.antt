@@ -1,5 +1,5 @@
 use mathlib.Core.Path.{_∙_}
-use Rattle.sheet.specs.Records.{leftOf}
+use Rattle.sheet.specs.Values.{leftOf}
 use Rattle.sheet.proofs.Names.{name-judged}
 use Rattle.sheet.proofs.records.read_name.Needs as need
 
