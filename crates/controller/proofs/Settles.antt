@@ -1,17 +1,20 @@
 -- What settle rests on: within a turn no deadline is jumped over, the turn's task has the ticks that it is charged,
 -- and the tasks are sound again once every deadline that has come is dealt with.
-use lib.Dec.{eqb}
+use lib.Dec.{eqb, ltb}
 use lib.ListN.{getD, length, set}
 use mathlib.Core.Bool.{Bool, true, false, cond}
 use mathlib.Core.List.{List, [], _∷_, map}
+use mathlib.Core.Logic.{⊎-elim}
 use mathlib.Core.Path.{_≡_, refl, ap, subst, sym, _∙_}
 use native.Mathlib.Omega.{arith}
 use Prim.Native.Nat.{ℕ, _+_, _-_, _^_, _<_, _≤_, min}
 use Rattle.controller.proofs.Lengths.{nearest-after}
-use Rattle.controller.specs.Settling.{Runner, chargedIn}
+use Rattle.controller.specs.Settling.{Runner, chargedIn, settledTasks, settling}
 use Rattle.controller.specs.Tasks.{Mirrors, Tasks, rates}
 use Rattle.controller.specs.Tied.{Open, Tied}
 use Rattle.controller.specs.Turns.{begun, lengthOf, nearest, runsOf}
+use Rattle.controller.specs.declared.states.OpenTurn.{OpenTurn}
+use Rattle.controller.specs.declared.states.Resting.{Resting}
 use Rattle.controller.specs.declared.states.Runs.{Runs}
 use Rattle.controller.specs.declared.states.Runs.the-variants.{Idle, Task as runs-task}
 use Rattle.controller.specs.declared.states.Turn.{Turn}
@@ -26,11 +29,14 @@ use Rattle.rules.specs.Sound.{Sound, SoundSlot}
 use Rattle.rules.specs.Tasks.{entryOf, rateOf}
 use Rattle.rules.specs.declared.tasks.Task.{Task}
 use Rattle.std.proofs.shelf.Elements.{all-getD, all-map, all-set, all-weaker}
+use Rattle.std.proofs.shelf.Lists.{set-getD}
 use Rattle.std.proofs.shelf.Sums.{sumBy-cons, sumBy-set}
-use Rattle.std.proofs.shelf.Tests.{cond-both}
+use Rattle.std.proofs.shelf.Tests.{cases-bool, cond-both, cond-false, cond-true, le-ltb, ne-eqb}
+use Rattle.rules.specs.declared.refusals.Refusal.the-variants.{CountTooHigh}
 use Rattle.std.specs.Iters.{folded}
 use Rattle.std.specs.declared.option.Option.{Option}
 use Rattle.std.specs.declared.option.Option.the-variants.{Some, None}
+use Rattle.std.specs.declared.result.Result.the-variants.{Ok, Err}
 use Rattle.std.specs.shelf.Lists.{All, sumBy}
 
 abbrev PassedSlot : ℕ → Option Task → Type 0
@@ -137,3 +143,58 @@ module _ (before : Entry → Entry → Bool) (laws : Lawful before) (turn : Turn
         shared = omega (arith, due-rates (turn .start + c) (chargedIn (turn .runs) c tasks), charge-rates c (turn .runs) tasks many runner, opened .rest .shared);
         memory = memory;
       }
+
+-- a turn that is settled with 0 changes nothing
+charged-nothing : (slot : Option Task) → charged 0 slot ≡ slot
+charged-nothing None = refl
+charged-nothing (Some t) =
+    let left : t .left - 0 ≡ t .left = omega arith in
+    let ran : t .ran + 0 ≡ t .ran = omega arith in
+    ap (λ n. with-ticks n (t .ran + 0)) left ∙ ap (λ n. with-ticks (t .left) n) ran
+  where
+    with-ticks : ℕ → ℕ → Option Task
+    with-ticks l r =
+        Some (record {
+          number = t .number;
+          rate = t .rate;
+          period = t .period;
+          phase = t .phase;
+          leaving = t .leaving;
+          release = t .release;
+          deadline = t .deadline;
+          left = l;
+          ran = r
+        })
+
+charged-none : (runs : Runs) (tasks : Tasks) → chargedIn runs 0 tasks ≡ tasks
+charged-none Idle tasks = refl
+charged-none (runs-task number deadline) tasks = ap (set tasks (number - 1)) (charged-nothing (getD tasks (number - 1) None)) ∙ set-getD tasks (number - 1) None
+
+-- no deadline of a sound task has come
+not-due : (T : ℕ) (slot : Option Task) → SoundSlot T slot → dueAt T slot ≡ slot
+not-due T None s = refl
+not-due T (Some t) s = cond-false (eqb (t .deadline) T) (afterDeadline t) (Some t) (ne-eqb (t .deadline) T (λ e. omega (arith, s .coming)))
+
+none-due : (T : ℕ) (tasks : Tasks) → All (SoundSlot T) tasks → map (dueAt T) tasks ≡ tasks
+none-due T [] all = refl
+none-due T (x ∷ tasks) all = let head : dueAt T x ≡ x = not-due T x (all .0) in let rest : map (dueAt T) tasks ≡ tasks = none-due T tasks (all .1) in cc
+
+pub settled-none : (turn : Turn) (tasks : Tasks) → All (SoundSlot (turn .start)) tasks → settledTasks turn 0 tasks ≡ tasks
+settled-none turn tasks sound =
+    let T = turn .start in
+    let same : T + 0 ≡ T = omega arith in
+    cond-false (ltb (turn .length) 0) tasks (map (dueAt (T + 0)) (chargedIn (turn .runs) 0 tasks)) (le-ltb (turn .length) 0 (omega arith))
+    ∙ (ap (λ t. map (dueAt t) (chargedIn (turn .runs) 0 tasks)) same ∙ (ap (map (dueAt T)) (charged-none (turn .runs) tasks) ∙ none-due T tasks sound))
+
+-- a turn that was settled has moved the clock by its count
+pub settled-clock : (opened : OpenTurn) (c : ℕ) (rest : Resting) → Ok rest ≡ settling opened c → rest .clock ≡ opened .turn .start + c
+settled-clock opened c rest is =
+    let later : Resting = record { clock = opened .turn .start + c } in
+    ⊎-elim
+    (λ (high : ltb (opened .turn .length) c ≡ true).
+       let no′ : settling opened c ≡ Err (opened , CountTooHigh) = cond-true (ltb (opened .turn .length) c) (Err (opened , CountTooHigh)) (Ok later) high in
+       let z : _≡_ {A = ℕ} 0 1 = cc in absurd (omega arith))
+    (λ (low : ltb (opened .turn .length) c ≡ false).
+       let yes′ : settling opened c ≡ Ok later = cond-false (ltb (opened .turn .length) c) (Err (opened , CountTooHigh)) (Ok later) low in
+       let same : rest ≡ later = cc in ap (λ r. r .clock) same)
+    (cases-bool (ltb (opened .turn .length) c))

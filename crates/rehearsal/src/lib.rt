@@ -3,3 +3,4 @@
 // Knows nothing of files, streams or arguments.
 pub mod lines;
 pub mod scripts;
+mod turns;
