@@ -1,3 +1,5 @@
 pub mod Lines
+pub mod Opened
+pub mod Rehearsals
 pub mod Scripts
 pub mod Turns

@@ -2,5 +2,6 @@
 // Promises: the output bytes are an equation of the input bytes, over any lawful ready list.
 // Knows nothing of files, streams or arguments.
 pub mod lines;
+pub mod play;
 pub mod scripts;
 mod turns;
