@@ -163,7 +163,7 @@ charged-nothing (Some t) =
           release = t .release;
           deadline = t .deadline;
           left = l;
-          ran = r
+          ran = r;
         })
 
 charged-none : (runs : Runs) (tasks : Tasks) → chargedIn runs 0 tasks ≡ tasks
@@ -192,9 +192,9 @@ settled-clock opened c rest is =
     let later : Resting = record { clock = opened .turn .start + c } in
     ⊎-elim
     (λ (high : ltb (opened .turn .length) c ≡ true).
-       let no′ : settling opened c ≡ Err (opened , CountTooHigh) = cond-true (ltb (opened .turn .length) c) (Err (opened , CountTooHigh)) (Ok later) high in
-       let z : _≡_ {A = ℕ} 0 1 = cc in absurd (omega arith))
+    let no′ : settling opened c ≡ Err (opened, CountTooHigh) = cond-true (ltb (opened .turn .length) c) (Err (opened, CountTooHigh)) (Ok later) high in
+    let z : _≡_ {A = ℕ} 0 1 = cc in absurd (omega arith))
     (λ (low : ltb (opened .turn .length) c ≡ false).
-       let yes′ : settling opened c ≡ Ok later = cond-false (ltb (opened .turn .length) c) (Err (opened , CountTooHigh)) (Ok later) low in
-       let same : rest ≡ later = cc in ap (λ r. r .clock) same)
+    let yes′ : settling opened c ≡ Ok later = cond-false (ltb (opened .turn .length) c) (Err (opened, CountTooHigh)) (Ok later) low in
+    let same : rest ≡ later = cc in ap (λ r. r .clock) same)
     (cases-bool (ltb (opened .turn .length) c))

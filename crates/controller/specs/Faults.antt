@@ -4,7 +4,7 @@ use Rattle.controller.specs.declared.faults.SheetFault.{SheetFault}
 use Rattle.controller.specs.declared.faults.SheetFault.the-variants.{InRecord, InTable}
 use Rattle.rules.specs.Refusals.{code}
 use Rattle.rules.specs.declared.refusals.Refusal.{Refusal}
-use Rattle.rules.specs.declared.refusals.Refusal.the-variants.{NoSuchTask, NumberTaken, RateOutOfRange, PeriodOutOfRange, JobTooSmall, RatesExceeded, CountTooHigh, ClockAtEnd}
+use Rattle.rules.specs.declared.refusals.Refusal.the-variants.{NoSuchTask, NumberTaken, NotReady, NotWaiting, RateOutOfRange, PeriodOutOfRange, JobTooSmall, RatesExceeded, AheadOfRate, BehindRate, TooFewTicks, CountTooHigh, ClockAtEnd}
 use Rattle.sheet.specs.Records.{TaskValue}
 use Rattle.sheet.specs.Records.{told as toldRecord}
 use Rattle.sheet.specs.declared.records.Told.{Told}
@@ -22,5 +22,10 @@ placeOf PeriodOutOfRange t = t .period .place
 placeOf JobTooSmall t = t .period .place
 placeOf NoSuchTask t = t .number .place
 placeOf NumberTaken t = t .number .place
+placeOf NotReady t = t .number .place
+placeOf NotWaiting t = t .number .place
+placeOf AheadOfRate t = t .number .place
+placeOf BehindRate t = t .number .place
+placeOf TooFewTicks t = t .number .place
 placeOf CountTooHigh t = t .number .place
 placeOf ClockAtEnd t = t .number .place

@@ -41,8 +41,8 @@ module _ (before : Entry → Entry → Bool) (input : List ℕ) (place T : ℕ) 
   pub play-bad : (bad : BadStep) → stepAt input place ≡ Err bad → out ++ lineOf T (bad .code) (Refused (bad .number)) ≡ whole
   play-bad bad here = ap (λ r. out ++ linesOf before T tasks r) (sym (reading-fault stepAt advances input place bad here)) ∙ inv
 
-  pub play-step : (step : Step) (end : ℕ) → stepAt input place ≡ Ok (Some (step , end)) → (rest : Resting) (next : Tasks) (outcome : Outcome) → doneBy rest next outcome ≡ performed before T tasks step
-    → (out′ : List ℕ) → out′ ≡ out ++ lineOf (rest .clock) (codeOf step) outcome → out′ ++ linesOf before (rest .clock) next (readingFrom stepAt input end) ≡ whole
+  pub play-step : (step : Step) (end : ℕ) → stepAt input place ≡ Ok (Some (step, end)) → (rest : Resting) (next : Tasks) (outcome : Outcome) → doneBy rest next outcome ≡ performed before T tasks step
+      → (out′ : List ℕ) → out′ ≡ out ++ lineOf (rest .clock) (codeOf step) outcome → out′ ++ linesOf before (rest .clock) next (readingFrom stepAt input end) ≡ whole
   play-step step end here rest next outcome is out′ line =
       ap (λ o. o ++ linesOf before (rest .clock) next (readingFrom stepAt input end)) line
       ∙ (append-assoc out (lineOf (rest .clock) (codeOf step) outcome) (linesOf before (rest .clock) next (readingFrom stepAt input end))
@@ -51,7 +51,7 @@ module _ (before : Entry → Entry → Bool) (input : List ℕ) (place T : ℕ) 
 
 -- the sheet's line and the lines of the calls behind it
 pub sheet-played : (before : Entry → Entry → Bool) (input : List ℕ) (place : ℕ) (from : Result Tasks SheetFault) (count clock : ℕ) (tasks : Tasks) (out₀ out₁ out₂ : List ℕ) → Ok count ≡ makeAnswer from → tasks ≡ madeTasks from → clock ≡ 0
-  → out₁ ≡ out₀ ++ lineOf 0 0 (Loaded count) → out₂ ≡ out₁ ++ linesOf before clock tasks (readingFrom stepAt input place) → out₂ ≡ out₀ ++ played before input place from
+    → out₁ ≡ out₀ ++ lineOf 0 0 (Loaded count) → out₂ ≡ out₁ ++ linesOf before clock tasks (readingFrom stepAt input place) → out₂ ≡ out₀ ++ played before input place from
 sheet-played before input place (Ok made′) count clock tasks out₀ out₁ out₂ answer is zero′ head rest =
     let many : count ≡ countBy isSome made′ = cc in
     rest

@@ -7,5 +7,5 @@ use Rattle.std.specs.declared.result.Result.{Result}
 use Rattle.std.specs.declared.result.Result.the-variants.{Ok, Err}
 
 abbrev pub openingOf : Result (RefT (List ℕ) × ℕ) Told → Result (List ℕ × ℕ) Told
-openingOf (Ok (sheet , place)) = Ok (sheet .now , place)
+openingOf (Ok (sheet, place)) = Ok (sheet .now, place)
 openingOf (Err fault) = Err fault

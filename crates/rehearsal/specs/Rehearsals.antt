@@ -45,8 +45,8 @@ linesOf before T tasks (entry step rest) = andOn (performed before T tasks step)
 
 -- the sheet's bytes behind its length, and the offset of the first call record
 abbrev pub sheetBehind : Result (Field × Left) RecordFault → Result (List ℕ × ℕ) Told
-sheetBehind (Ok (size , left)) =
-    cond (leb (size .value) (length (left .bytes))) (Ok (take (size .value) (left .bytes) , left .place + size .value)) (Err (record { number = 1; layer = 1; place = 0 }))
+sheetBehind (Ok (size, left)) =
+    cond (leb (size .value) (length (left .bytes))) (Ok (take (size .value) (left .bytes), left .place + size .value)) (Err (record { number = 1; layer = 1; place = 0 }))
 sheetBehind (Err fault) = Err (told fault)
 
 abbrev pub opening : List ℕ → Result (List ℕ × ℕ) Told
@@ -58,7 +58,7 @@ played before input place (Ok tasks) = lineOf 0 0 (Loaded (countBy isSome tasks)
 played before input place (Err fault) = lineOf 0 0 (Faulty (toldSheet fault))
 
 abbrev pub rehearsedFrom : (Entry → Entry → Bool) → List ℕ → Result (List ℕ × ℕ) Told → List ℕ
-rehearsedFrom before input (Ok (sheet , place)) = played before input place (made sheet)
+rehearsedFrom before input (Ok (sheet, place)) = played before input place (made sheet)
 rehearsedFrom before input (Err fault) = lineOf 0 0 (Faulty fault)
 
 -- what a rehearsal of the input prints

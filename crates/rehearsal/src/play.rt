@@ -11,15 +11,15 @@ ghost use Rattle.rehearsal.specs.Turns.{doneBy};
 ghost use Rattle.sheet.specs.Readings.{readingFrom};
 ghost use Rattle.std.specs.Of.String.{string-bytes};
 ghost use Rattle.std.specs.Vec.{made};
-use controller::make::make;
-use controller::memory::TaskMemory;
-use controller::states::Resting;
 use crate::lines::Outcome;
 use crate::lines::write_line;
 use crate::scripts::Step;
 use crate::scripts::TURN;
 use crate::scripts::step_at;
 use crate::turns::take_turn;
+use controller::make::make;
+use controller::memory::TaskMemory;
+use controller::states::Resting;
 use ready::ReadyList;
 use sheet::records::Rest;
 use sheet::records::Told;
@@ -52,7 +52,12 @@ fn read_opening<'a>(input: &'a [u8]) -> Result<(&'a [u8], usize), Told>
 }
 
 // Carries out one call record.
-fn perform<L: ReadyList>(rest: Resting, step: Step, memory: &mut TaskMemory, list: &mut L) -> (Resting, Outcome)
+fn perform<L: ReadyList>(
+    rest: Resting,
+    step: Step,
+    memory: &mut TaskMemory,
+    list: &mut L,
+) -> (Resting, Outcome)
     requires { ⌜ Tied (rest .clock) (now memory .slots) (L·ReadyList .held (now list)) (L·ReadyList .ok (now list)) ⌝ }
     ensures done { λ r. ⌜ doneBy (r .0) (now (memory .exit) .slots) (r .1) ≡ performed (Order·TieOrder .before) (rest .clock) (now (memory .entry) .slots) step ⌝ }
     ensures tied { λ r. ⌜ Tied (r .0 .clock) (now (memory .exit) .slots) (L·ReadyList .held (now (list .exit))) (L·ReadyList .ok (now (list .exit))) ⌝ }
@@ -72,7 +77,14 @@ fn code_of(step: Step) -> u8
 }
 
 // Carries out the call records from an offset on, a line for each.
-fn play<L: ReadyList>(input: &[u8], start: usize, first: Resting, memory: &mut TaskMemory, list: &mut L, out: &mut String) -> fmt::Result
+fn play<L: ReadyList>(
+    input: &[u8],
+    start: usize,
+    first: Resting,
+    memory: &mut TaskMemory,
+    list: &mut L,
+    out: &mut String,
+) -> fmt::Result
     requires { ⌜ Tied (first .clock) (now memory .slots) (L·ReadyList .held (now list)) (L·ReadyList .ok (now list)) ⌝ }
     ensures { λ r. ⌜ made r (λ _. string-bytes (now (out .exit)) ≡ string-bytes (now (out .entry)) ++ linesOf (Order·TieOrder .before) (first .clock) (now (memory .entry) .slots) (readingFrom stepAt (now (input .entry)) start)) ⌝ }
 {
@@ -102,7 +114,13 @@ fn play<L: ReadyList>(input: &[u8], start: usize, first: Resting, memory: &mut T
 }
 
 // Makes the controller from the sheet, writes the sheet's line and plays the calls behind it.
-fn play_sheet<L: ReadyList>(input: &[u8], sheet: &[u8], place: usize, list: &mut L, out: &mut String) -> fmt::Result
+fn play_sheet<L: ReadyList>(
+    input: &[u8],
+    sheet: &[u8],
+    place: usize,
+    list: &mut L,
+    out: &mut String,
+) -> fmt::Result
     ensures { λ r. ⌜ made r (λ _. string-bytes (now (out .exit)) ≡ string-bytes (now (out .entry)) ++ played (Order·TieOrder .before) (now (input .entry)) place (madeOf (now (sheet .entry)))) ⌝ }
 {
     let mut memory = TaskMemory::new();
@@ -136,7 +154,11 @@ fn front<'a>(input: &'a [u8]) -> &'a [u8]
 }
 
 // A whole rehearsal: what it prints for the input. It fails only for want of memory.
-pub fn rehearse<L: ReadyList>(heap: Global, input: &[u8], list: &mut L) -> Result<String, fmt::Error>
+pub fn rehearse<L: ReadyList>(
+    heap: Global,
+    input: &[u8],
+    list: &mut L,
+) -> Result<String, fmt::Error>
     ensures { λ r. ⌜ made r (λ out. string-bytes out ≡ rehearsed (Order·TieOrder .before) (take 65536 (now (input .entry)))) ⌝ }
 {
     let input = front(input);

@@ -3,12 +3,12 @@ ghost use mathlib.Core.List.{map};
 ghost use mathlib.Core.Path.{_≡_};
 ghost use Rattle.controller.specs.Tied.{Open, Tied};
 ghost use Rattle.rehearsal.specs.Turns.{doneBy, runnerOf, turned, turnedBy};
+use crate::lines::Outcome;
 use controller::memory::TaskMemory;
 use controller::states::OpenTurn;
 use controller::states::Resting;
 use controller::states::Runs;
 use controller::states::Turn;
-use crate::lines::Outcome;
 use ready::ReadyList;
 
 // The number of the turn's task, or 0 where it is idle.
@@ -35,7 +35,12 @@ fn give_up<L: ReadyList>(opened: OpenTurn, memory: &mut TaskMemory, list: &mut L
 }
 
 // Settles an open turn with the count, and with 0 where that is refused.
-fn settle_turn<L: ReadyList>(opened: OpenTurn, count: u32, memory: &mut TaskMemory, list: &mut L) -> (Resting, Outcome)
+fn settle_turn<L: ReadyList>(
+    opened: OpenTurn,
+    count: u32,
+    memory: &mut TaskMemory,
+    list: &mut L,
+) -> (Resting, Outcome)
     requires { ⌜ Open (Order·TieOrder .before) (opened .turn) (now memory .slots) (L·ReadyList .held (now list)) (L·ReadyList .ok (now list)) ⌝ }
     ensures done { λ r. ⌜ doneBy (r .0) (now (memory .exit) .slots) (r .1) ≡ turnedBy (opened .turn) (now (memory .entry) .slots) count ⌝ }
     ensures tied { λ r. ⌜ Tied (r .0 .clock) (now (memory .exit) .slots) (L·ReadyList .held (now (list .exit))) (L·ReadyList .ok (now (list .exit))) ⌝ }
@@ -48,7 +53,12 @@ fn settle_turn<L: ReadyList>(opened: OpenTurn, count: u32, memory: &mut TaskMemo
 }
 
 // One turn of the rehearsal.
-pub(crate) fn take_turn<L: ReadyList>(rest: Resting, count: u32, memory: &mut TaskMemory, list: &mut L) -> (Resting, Outcome)
+pub(crate) fn take_turn<L: ReadyList>(
+    rest: Resting,
+    count: u32,
+    memory: &mut TaskMemory,
+    list: &mut L,
+) -> (Resting, Outcome)
     requires { ⌜ Tied (rest .clock) (now memory .slots) (L·ReadyList .held (now list)) (L·ReadyList .ok (now list)) ⌝ }
     ensures done { λ r. ⌜ doneBy (r .0) (now (memory .exit) .slots) (r .1) ≡ turned (Order·TieOrder .before) (rest .clock) (now (memory .entry) .slots) count ⌝ }
     ensures tied { λ r. ⌜ Tied (r .0 .clock) (now (memory .exit) .slots) (L·ReadyList .held (now (list .exit))) (L·ReadyList .ok (now (list .exit))) ⌝ }

@@ -11,7 +11,9 @@ use table::TableList;
 // The most that a rehearsal reads.
 fn read_input(rt: &LibcRuntime) -> Result<Vec<u8>, AnyError> {
     let mut input = Vec::new(rt.alloc());
-    rt.stdin().take(LONGEST_INPUT as u64).read_to_end(&mut input)?;
+    rt.stdin()
+        .take(LONGEST_INPUT as u64)
+        .read_to_end(&mut input)?;
     Ok(input)
 }
 

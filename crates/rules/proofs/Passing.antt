@@ -4,7 +4,7 @@ use mathlib.Core.Bool.{true, false}
 use mathlib.Core.Path.{_≡_, refl, ap, subst, sym, _∙_}
 use native.Mathlib.Nat.{mul-add, mul-le-mul-right}
 use native.Mathlib.Omega.{arith}
-use Prim.Native.Nat.{ℕ, _+_, _-_, _*_, _/_, _^_, _<_, _≤_}
+use Prim.Native.Nat.{ℕ, _+_, _-_, _*_, _/_, _<_, _≤_}
 use Rattle.rules.specs.Admission.{admitted, whyNotAdmitted}
 use Rattle.rules.specs.Jobs.{Chargeable, afterDeadline, charged, dueAt, grant, nextJob}
 use Rattle.rules.specs.Sound.{Sound, SoundSlot}
@@ -111,8 +111,14 @@ charged-passed T c t u is le p =
     some-is : (a b : Task) → Some a ≡ Some b → a ≡ b
     some-is a b e = cc
 
--- a sound task's ticks are few
-pub few-ticks : (T : ℕ) (t : Task) → Sound T t → T ≤ 2 ^ 40 → t .left + t .ran < 2 ^ 41
-few-ticks T t s le =
+-- a sound task's ticks are no more than its period
+pub few-ticks : (T : ℕ) (t : Task) → Sound T t → t .left + t .ran ≤ t .period
+few-ticks T t s =
     let most : t .rate * (t .deadline - T) ≤ 1000 * (t .deadline - T) = mul-le-mul-right (t .deadline - T) (s .rateHigh) in
-    omega (arith, s .bounded, s .spans, s .begun, s .periodHigh)
+    omega (arith, s .bounded, s .spans, s .begun, s .coming)
+
+-- what a rate gives until the deadline, in thousandths, is little
+pub share-few : (T : ℕ) (t : Task) → Sound T t → t .rate * (t .deadline - T) ≤ 1000000000
+share-few T t s =
+    let most : t .rate * (t .deadline - T) ≤ 1000 * (t .deadline - T) = mul-le-mul-right (t .deadline - T) (s .rateHigh) in
+    omega (arith, s .spans, s .begun, s .periodHigh)

@@ -1,4 +1,5 @@
 pub mod Admission
+pub mod Changes
 pub mod Jobs
 pub mod Phases
 pub mod Refusals

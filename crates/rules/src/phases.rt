@@ -11,6 +11,9 @@ pub enum Phase {
 
 #[derive(Clone, Copy, PartialEq, Eq, Debug)]
 pub enum Event {
+    Wait,
+    Wake,
+    Finish,
     Deadline,
 }
 
@@ -19,9 +22,11 @@ impl Phase {
         ensures { λ _. ⌜ now (self .exit) ≡ stepped (now (self .entry)) event ⌝ }
     {
         *self = match (*self, event) {
-            (Phase::Ready, Event::Deadline) => Phase::Ready,
-            (Phase::Waiting, Event::Deadline) => Phase::Waiting,
+            (Phase::Ready, Event::Wait) => Phase::Waiting,
+            (Phase::Waiting, Event::Wake) => Phase::Ready,
+            (Phase::Ready, Event::Finish) => Phase::Finished,
             (Phase::Finished, Event::Deadline) => Phase::Ready,
+            (phase, _) => phase,
         };
     }
 }

@@ -6,10 +6,15 @@ ghost use Rattle.rules.specs.Refusals.{code as codeOf};
 pub enum Refusal {
     NoSuchTask,
     NumberTaken,
+    NotReady,
+    NotWaiting,
     RateOutOfRange,
     PeriodOutOfRange,
     JobTooSmall,
     RatesExceeded,
+    AheadOfRate,
+    BehindRate,
+    TooFewTicks,
     CountTooHigh,
     ClockAtEnd,
 }
@@ -21,10 +26,15 @@ impl Refusal {
         match self {
             Refusal::NoSuchTask => 5,
             Refusal::NumberTaken => 6,
+            Refusal::NotReady => 7,
+            Refusal::NotWaiting => 8,
             Refusal::RateOutOfRange => 9,
             Refusal::PeriodOutOfRange => 10,
             Refusal::JobTooSmall => 11,
             Refusal::RatesExceeded => 12,
+            Refusal::AheadOfRate => 13,
+            Refusal::BehindRate => 14,
+            Refusal::TooFewTicks => 15,
             Refusal::CountTooHigh => 16,
             Refusal::ClockAtEnd => 17,
         }

@@ -13,7 +13,7 @@ use Rattle.std.specs.Of.String.{string-bytes}
 abbrev pub Inv-loop-found : given.InvT-loop-found
 Inv-loop-found g l =
     (string-bytes (l .out) ++ linesOf (g .Order·TieOrder .before) (l .rest .clock) (l .memory .slots) (readingFrom stepAt (l .input) (l .place))
-      ≡ string-bytes (l .entry .out) ++ linesOf (g .Order·TieOrder .before) (l .entry .rest .clock) (l .entry .memory .slots) (readingFrom stepAt (l .input) (l .entry .place)))
+    ≡ string-bytes (l .entry .out) ++ linesOf (g .Order·TieOrder .before) (l .entry .rest .clock) (l .entry .memory .slots) (readingFrom stepAt (l .input) (l .entry .place)))
     × Tied (l .rest .clock) (l .memory .slots) (g .L·ReadyList .held (l .list)) (g .L·ReadyList .ok (l .list))
 
 abbrev pub μ-loop-found : given.MeasureT-loop-found

@@ -8,5 +8,5 @@ returns g c =
     record {
       clock = settled-clock (c .args .opened) 0 (c .in-Ok .rest) (c .in-Ok .ensures tt .answer) ∙ add-zero (c .args .opened .turn .start);
       tasks = c .settle .ensures .tasks ∙ settled-none (c .args .opened .turn) (c .args .memory .now .slots) (c .pre .rest .sound);
-      tied = c .in-Ok .ensures tt .tied
+      tied = c .in-Ok .ensures tt .tied;
     }
