@@ -13,7 +13,7 @@ use Rattle.controller.specs.Turns.{begun, lengthOf, nearest, runsOf}
 use Rattle.controller.specs.declared.states.Runs.{Runs}
 use Rattle.controller.specs.declared.states.Turn.{Turn}
 use Rattle.order.specs.declared.entries.Entry.{Entry}
-use Rattle.ready.proofs.Slots.{entryAt-some}
+use Rattle.ready.proofs.Slots.{slotAt-some}
 use Rattle.ready.specs.Held.{Held, Least}
 use Rattle.rules.specs.Jobs.{leftOf, sooner}
 use Rattle.rules.specs.Sound.{SoundSlot}
@@ -38,7 +38,7 @@ nearest-after T tasks lt all = nearest-from T (2 ^ 40) tasks lt all
 -- the first entry's number is that of a slot
 pub first-in-table : (before : Entry → Entry → Bool) (held : Held) (first : Option Entry) → Least before held first → InTable first
 first-in-table before held None least = tt
-first-in-table before held (Some e) least = let h = entryAt-some held (e .number) e (least .isHeld) in (omega (arith, h .0), h .1)
+first-in-table before held (Some e) least = let h = slotAt-some held (e .number) e (least .isHeld) in (omega (arith, h .0), h .1)
 
 -- an entry stands for a task with a tick left
 entry-left : (slot : Option Task) (e : Entry) → entryOf slot ≡ Some e → 0 < leftOf slot
@@ -55,7 +55,7 @@ pub length-some : (before : Entry → Entry → Bool) (T : ℕ) (tasks : Tasks) 
     → 0 < lengthOf T tasks first
 length-some before T tasks held None lt sound mirror least = omega (arith, nearest-after T tasks lt sound)
 length-some before T tasks held (Some e) lt sound mirror least =
-    let h = entryAt-some held (e .number) e (least .isHeld) in
+    let h = slotAt-some held (e .number) e (least .isHeld) in
     let in′ : e .number - 1 < length tasks = omega (arith, h .0, h .1, mirror .many) in
     let is : entryOf (getD tasks (e .number - 1) None) ≡ Some e = sym (getD-map entryOf tasks (e .number - 1) None None in′) ∙ (ap (λ x. getD x (e .number - 1) None) (sym (mirror .same)) ∙ h .2) in
     omega (arith, nearest-after T tasks lt sound, entry-left (getD tasks (e .number - 1) None) e is)

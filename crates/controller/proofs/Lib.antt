@@ -1,4 +1,5 @@
 pub mod Admits
+pub mod Changing
 pub mod Lengths
 pub mod Lists
 pub mod Makes

@@ -1,15 +1,20 @@
 -- How the tasks grow record by record.
 use mathlib.Core.List.{List}
 use mathlib.Core.Path.{_≡_, ap, sym, _∙_}
+use native.Mathlib.Omega.{arith}
 use Prim.Native.Nat.{ℕ}
-use Rattle.controller.specs.Making.{afterRecord, enrolled}
+use Rattle.controller.specs.Admitting.{accepted}
+use Rattle.controller.specs.Faults.{placeOf}
+use Rattle.controller.specs.Making.{afterRecord, enrolled, joined}
 use Rattle.controller.specs.Tasks.{Tasks}
 use Rattle.controller.specs.declared.faults.SheetFault.{SheetFault}
-use Rattle.controller.specs.declared.faults.SheetFault.the-variants.{InRecord}
+use Rattle.controller.specs.declared.faults.SheetFault.the-variants.{InRecord, InTable}
+use Rattle.rules.specs.declared.refusals.Refusal.{Refusal}
+use Rattle.rules.specs.declared.tasks.Task.{Task}
 use Rattle.sheet.proofs.Laws.{advances}
 use Rattle.sheet.proofs.Readings.{reading-entry, reading-fault, reading-none}
 use Rattle.sheet.specs.Readings.{andThen}
-use Rattle.sheet.specs.Records.{RecordValue, recordAt}
+use Rattle.sheet.specs.Records.{RecordValue, TaskValue, recordAt}
 use Rattle.sheet.specs.Sheets.{sheetFrom}
 use Rattle.sheet.specs.declared.records.RecordFault.{RecordFault}
 use Rattle.std.specs.declared.option.Option.the-variants.{Some, None}
@@ -34,3 +39,8 @@ module _ (sheet : List ℕ) (place : ℕ) (tasks : Tasks) where
 
   pub load-none : recordAt sheet place ≡ Ok None → Ok tasks ≡ enrolled tasks (sheetFrom sheet place)
   load-none here = sym (ap (enrolled tasks) (reading-none recordAt advances sheet place here))
+
+-- a task that was refused is a fault at the field that the refusal speaks of
+pub join-refused : (outcome : Result Task Refusal) (asked : TaskValue) (tasks : Tasks) (why : Refusal) (place : ℕ) → Err why ≡ accepted outcome → place ≡ placeOf why asked → Err (InTable why place) ≡ joined outcome asked tasks
+join-refused (Ok t) asked tasks why place is at = let z : _≡_ {A = ℕ} 0 1 = cc in absurd (omega arith)
+join-refused (Err other) asked tasks why place is at = let same : why ≡ other = cc in ap (λ p. Err (InTable why p)) at ∙ ap (λ w. Err (InTable w (placeOf w asked))) same

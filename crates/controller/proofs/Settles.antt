@@ -21,7 +21,7 @@ use Rattle.controller.specs.declared.states.Turn.{Turn}
 use Rattle.order.specs.Orders.{Lawful}
 use Rattle.order.specs.declared.entries.Entry.{Entry}
 use Rattle.ready.proofs.First.{first-least}
-use Rattle.ready.proofs.Slots.{entryAt-some}
+use Rattle.ready.proofs.Slots.{slotAt-some}
 use Rattle.ready.specs.Held.{Held, Least, Slotted, firstOf}
 use Rattle.rules.proofs.Passing.{Passed, charged-passed, due-sound, few-ticks, passes}
 use Rattle.rules.specs.Jobs.{Chargeable, afterDeadline, charged, dueAt, leftOf, nextJob, sooner}
@@ -101,13 +101,13 @@ charge-rates c (runs-task number deadline) tasks many runner =
 -- a slot whose entry leads may be charged what a turn of it lasts
 chargeable : (T c : ℕ) (slot : Option Task) → SoundSlot T slot → T ≤ 2 ^ 40 → c ≤ leftOf slot → Chargeable c slot
 chargeable T c None s le few = tt
-chargeable T c (Some t) s le few = (few, omega (arith, few-ticks T t s le))
+chargeable T c (Some t) s le few = (few, omega (arith, few-ticks T t s, s .periodHigh))
 
 runner-first : (before : Entry → Entry → Bool) (T c : ℕ) (tasks : Tasks) (held : Held) (first : Option Entry) → T ≤ 2 ^ 40 → All (SoundSlot T) tasks → Mirrors tasks held → Least before held first
     → c ≤ lengthOf T tasks first → Runner (runsOf first) c tasks
 runner-first before T c tasks held None le sound mirror least few = tt
 runner-first before T c tasks held (Some e) le sound mirror least few =
-    let h = entryAt-some held (e .number) e (least .isHeld) in
+    let h = slotAt-some held (e .number) e (least .isHeld) in
     let slot = getD tasks (e .number - 1) None in
     (omega (arith, h .0), h .1, chargeable T c slot (all-getD (SoundSlot T) tasks (e .number - 1) None (omega (arith, h .0, h .1, mirror .many)) sound) le (omega (arith, few)))
 

@@ -1,21 +1,21 @@
 -- Admission to the table of tasks.
-use lib.ListN.{getD, set}
-use mathlib.Core.Bool.{Bool, cond, _&&_}
+use lib.ListN.{set}
+use mathlib.Core.Bool.{Bool}
 use Prim.Native.Nat.{ℕ, _-_}
+use Rattle.controller.specs.Changing.{taskAt}
 use Rattle.controller.specs.Tasks.{Tasks, rates}
-use Rattle.order.specs.Orders.{inRange}
 use Rattle.rules.specs.Admission.{admission}
 use Rattle.rules.specs.declared.admission.Reservation.{Reservation}
 use Rattle.rules.specs.declared.refusals.Refusal.{Refusal}
 use Rattle.rules.specs.declared.tasks.Task.{Task}
 use Rattle.std.specs.Options.{isSome}
-use Rattle.std.specs.declared.option.Option.the-variants.{Some, None}
+use Rattle.std.specs.declared.option.Option.the-variants.{Some}
 use Rattle.std.specs.declared.result.Result.{Result}
 use Rattle.std.specs.declared.result.Result.the-variants.{Ok, Err}
 
 -- a task has the number, be it leaving, waiting or finished
 abbrev pub isTaken : Tasks → ℕ → Bool
-isTaken tasks number = inRange number && isSome (getD tasks (number - 1) None)
+isTaken tasks number = isSome (taskAt tasks number)
 
 -- the task that is admitted at T, or the reason why not
 abbrev pub admissionTo : ℕ → Tasks → Reservation → Result Task Refusal

@@ -1,4 +1,5 @@
 pub mod Admitting
+pub mod Changing
 pub mod Faults
 pub mod Making
 pub mod Settling

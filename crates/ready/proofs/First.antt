@@ -9,7 +9,7 @@ use native.Mathlib.Omega.{arith}
 use Prim.Native.Nat.{ℕ, zero, suc, _+_, _-_, _<_, _≤_}
 use Rattle.order.specs.Orders.{Lawful}
 use Rattle.order.specs.declared.entries.Entry.{Entry}
-use Rattle.ready.proofs.Slots.{entryAt-in, entryAt-some}
+use Rattle.ready.proofs.Slots.{entryAt-in, slotAt-some}
 use Rattle.ready.specs.Held.{Held, Least, Leads, Slotted, better, entryAt, firstOf, none}
 use Rattle.std.proofs.shelf.Lists.{getD-replicate}
 use Rattle.std.proofs.shelf.Tests.{cases-eq, cases-bool, cond-true, cond-false, true≢false}
@@ -130,7 +130,7 @@ all-none (x ∷ xs) a = let rest : xs ≡ replicate (length xs) None = all-none 
 -- nothing is held in an empty list
 none-holds : (e : Entry) → entryAt none (e .number) ≡ Some e → ⊥
 none-holds e is =
-    let s = entryAt-some none (e .number) e is in
+    let s = slotAt-some none (e .number) e is in
     let lt : e .number - 1 < 64 = omega (arith, s .0, s .1) in
     let empty : getD none (e .number - 1) None ≡ None = getD-replicate {A = Option Entry} 64 (e .number - 1) None None lt in
     let z : _≡_ {A = ℕ} 0 1 = cc (s .2) in omega arith
@@ -145,7 +145,7 @@ module _ (before : Entry → Entry → Bool) (laws : Lawful before) (held : Held
       let back : t .0 ≡ e .number - 1 = omega arith in
       record {
         isHeld = entryAt-in held (e .number) (omega arith) (omega (arith, t .1)) ∙ subst (λ n. getD held n None ≡ Some e) back (t .2);
-        leads = λ o is apart. let s = entryAt-some held (o .number) o is in l .1 o (inr (at-among held (o .number - 1) o (omega (arith, s .1)) (s .2))) apart;
+        leads = λ o is apart. let s = slotAt-some held (o .number) o is in l .1 o (inr (at-among held (o .number - 1) o (omega (arith, s .1)) (s .2))) apart;
       }
 
   -- the fold's answer comes before all others

@@ -9,7 +9,7 @@ use native.Mathlib.Omega.{arith}
 use Prim.Native.Nat.{ℕ, _+_, _-_, _<_, _≤_}
 use Rattle.order.specs.Orders.{inRange}
 use Rattle.order.specs.declared.entries.Entry.{Entry}
-use Rattle.ready.specs.Held.{Held, PlacedBy, Slotted, entryAt, free, holds, none, putIn, takenOut}
+use Rattle.ready.specs.Held.{Held, PlacedBy, Slotted, entryAt, slotAt, free, holds, none, putIn, takenOut}
 use Rattle.std.proofs.shelf.Ways.{tells}
 use Rattle.std.proofs.shelf.Lists.{getD-replicate, set-getD, set-set}
 use Rattle.std.proofs.shelf.Tests.{cases-bool, cases-eq, cond-false, cond-true, true≢false}
@@ -38,9 +38,9 @@ module _ {A : Type 0} (number : A → ℕ) where
 pub entryAt-in : (held : Held) (number : ℕ) → 0 < number → number ≤ 64 → entryAt held number ≡ getD held (number - 1) None
 entryAt-in held number low high = cond-true (inRange number) (getD held (number - 1) None) None (grind (arith, tells))
 
--- an entry that is held stands in the slot of its number
-pub entryAt-some : (held : Held) (number : ℕ) (e : Entry) → entryAt held number ≡ Some e → (0 < number) × (number ≤ 64) × (getD held (number - 1) None ≡ Some e)
-entryAt-some held number e is = grind (arith, tells)
+-- what a number has stands in the slot of the number
+pub slotAt-some : {A : Type 0} (slots : List (Option A)) (number : ℕ) (a : A) → slotAt slots number ≡ Some a → (0 < number) × (number ≤ 64) × (getD slots (number - 1) None ≡ Some a)
+slotAt-some slots number a is = grind (arith, tells)
 
 -- a write to the slot of a number keeps the slots
 pub slotted-set : (held : Held) (i : ℕ) (x : Option Entry) → Slotted held → ((e : Entry) → x ≡ Some e → e .number ≡ i + 1) → Slotted (set held i x)

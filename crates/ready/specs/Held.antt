@@ -20,9 +20,13 @@ Held = List (Option Entry)
 abbrev pub none : Held
 none = replicate 64 None
 
+-- what stands in the slot of a number, if it is a task number
+abbrev pub slotAt : {A : Type 0} → List (Option A) → ℕ → Option A
+slotAt slots number = cond (inRange number) (getD slots (number - 1) None) None
+
 -- the entry of a number, if it is held
 abbrev pub entryAt : Held → ℕ → Option Entry
-entryAt held number = cond (inRange number) (getD held (number - 1) None) None
+entryAt held number = slotAt held number
 
 -- whether a number is held
 abbrev pub holds : Held → ℕ → Bool

@@ -7,6 +7,7 @@ use Rattle.controller.specs.Admitting.{accepted, admissionTo, isTaken, withTas
 use Rattle.controller.specs.Tasks.{Mirrors}
 use Rattle.controller.specs.Tied.{Tied}
 use Rattle.rules.specs.Admission.{admission}
+use Rattle.std.specs.Options.{isSome}
 use Rattle.std.specs.declared.option.Option.the-variants.{Some}
 use Rattle.std.specs.declared.result.Result.the-variants.{Ok}
 
@@ -19,7 +20,7 @@ returns g c =
     let held = g .L·ReadyList .held (c .store .last .list) in
     let ok = g .L·ReadyList .ok (c .store .last .list) in
     let is : admissionTo T tasks asked ≡ Ok t =
-    sym (c .in-Continue-task .ensures tt ∙ (ap (λ k. admission T k (c .rates .result) asked) (c .is-taken-taken .ensures) ∙ ap (λ n. admission T (isTaken tasks (asked .number)) n asked) (c .rates .ensures))) in
+    sym (c .in-Continue-task .ensures tt ∙ (ap (λ k. admission T k (c .rates .result) asked) (c .is-some-taken .ensures ∙ ap isSome (c .task-at .ensures)) ∙ ap (λ n. admission T (isTaken tasks (asked .number)) n asked) (c .rates .ensures))) in
     record {
       answer = sym (ap accepted is);
       tasks = c .store .ensures .tasks ∙ sym (ap (λ r. withTask r tasks) is);
