@@ -26,3 +26,7 @@ pub record Lawful (before : Entry → Entry → Bool) : Type 0 where
 -- the earlier deadline first; of equal deadlines the lower number
 abbrev pub byNumber : Entry → Entry → Bool
 byNumber a b = cond (eqb (a .deadline) (b .deadline)) (ltb (a .number) (b .number)) (ltb (a .deadline) (b .deadline))
+
+-- the earlier deadline first; of equal deadlines the higher rate; of equal rates the lower number
+abbrev pub byRate : Entry → Entry → Bool
+byRate a b = cond (eqb (a .deadline) (b .deadline)) (cond (eqb (a .rate) (b .rate)) (ltb (a .number) (b .number)) (ltb (b .rate) (a .rate))) (ltb (a .deadline) (b .deadline))

@@ -3,7 +3,7 @@
 ghost use mathlib.Core.Bool.{Bool};
 ghost use mathlib.Core.Path.{_≡_};
 ghost use Rattle.order.specs.declared.entries.Entry.{Entry};
-ghost use Rattle.order.specs.Orders.{Lawful, byNumber};
+ghost use Rattle.order.specs.Orders.{Lawful, byNumber, byRate};
 use crate::entries::Entry;
 
 // An order on entries of different numbers.
@@ -30,6 +30,24 @@ pub impl TieOrder for ByNumber as ByNumberOrder {
             a.number < b.number
         } else {
             a.deadline < b.deadline
+        }
+    }
+}
+
+// Ties go to the higher rate, and of equal rates to the lower number.
+#[derive(Clone, Copy)]
+pub struct ByRate;
+
+pub impl TieOrder for ByRate as ByRateOrder {
+    ghost before = { byRate };
+
+    fn comes_before(a: Entry, b: Entry) -> bool {
+        if a.deadline != b.deadline {
+            a.deadline < b.deadline
+        } else if a.rate != b.rate {
+            a.rate > b.rate
+        } else {
+            a.number < b.number
         }
     }
 }

@@ -128,7 +128,7 @@ all-none [] a = refl
 all-none (x ∷ xs) a = let rest : xs ≡ replicate (length xs) None = all-none xs (a .1) in let head : x ≡ None = a .0 in cc
 
 -- nothing is held in an empty list
-none-holds : (e : Entry) → entryAt none (e .number) ≡ Some e → ⊥
+pub none-holds : (e : Entry) → entryAt none (e .number) ≡ Some e → ⊥
 none-holds e is =
     let s = slotAt-some none (e .number) e is in
     let lt : e .number - 1 < 64 = omega (arith, s .0, s .1) in

@@ -67,7 +67,8 @@ module _ (held : Held) (number : ℕ) (range : true ≡ inRange number) where
   pub slot-back : number ≡ number - 1 + 1
   slot-back = omega (arith, number-low)
 
-none-from-empty : (x : Option Entry) → isSome x ≡ false → x ≡ None
+-- a slot that is not full holds nothing
+pub none-from-empty : (x : Option Entry) → isSome x ≡ false → x ≡ None
 none-from-empty None is = refl
 none-from-empty (Some e) is = absurd (true≢false is)
 
@@ -94,3 +95,30 @@ put-set held e slots range =
 -- the entry of a task number, as a slot
 pub entry-slot : (held : Held) (number : ℕ) → inRange number ≡ true → entryAt held number ≡ getD held (number - 1) None
 entry-slot held number range = cond-true (inRange number) (getD held (number - 1) None) None range
+
+-- a number from 1 to 64 passes the test for a task number
+pub range-from : (number : ℕ) → (0 < number) × (number ≤ 64) → inRange number ≡ true
+range-from number bounds = let low = bounds .0 in let high = bounds .1 in grind (arith, tells)
+
+-- an entry has the number that it is held under
+pub entryAt-number : (held : Held) (number : ℕ) (e : Entry) → Slotted held → entryAt held number ≡ Some e → e .number ≡ number
+entryAt-number held number e slots is =
+    let at = slotAt-some held number e is in
+    let n : e .number ≡ number - 1 + 1 = slots .placed (number - 1) e (omega (arith, at .0, at .1, slots .many)) (at .2) in
+    omega (arith, at .0)
+
+-- after a write to the slot of a number, the number has what was written
+pub entryAt-set-same : (held : Held) (number : ℕ) (x : Option Entry) → Slotted held → inRange number ≡ true → entryAt (set held (number - 1) x) number ≡ x
+entryAt-set-same held number x slots range =
+    let lt : number - 1 < length held = omega (arith, slot-back held number (sym range), slots .many, number-high held number (sym range)) in
+    entry-slot (set held (number - 1) x) number range ∙ getD-set-same held (number - 1) x None lt
+
+-- and every other number what it had
+pub entryAt-set-other : (held : Held) (number other : ℕ) (x : Option Entry) → 0 < number → (other ≡ number → ⊥) → entryAt (set held (number - 1) x) other ≡ entryAt held other
+entryAt-set-other held number other x low apart =
+    ⊎-elim
+    (λ (range : inRange other ≡ true).
+    let away : other - 1 ≡ number - 1 → ⊥ = λ same. apart (omega (arith, slot-back held other (sym range))) in
+    entry-slot (set held (number - 1) x) other range ∙ (getD-set-other held (number - 1) (other - 1) x None away ∙ sym (entry-slot held other range)))
+    (λ (out : inRange other ≡ false). cond-false (inRange other) (getD (set held (number - 1) x) (other - 1) None) None out ∙ sym (cond-false (inRange other) (getD held (other - 1) None) None out))
+    (cases-bool (inRange other))

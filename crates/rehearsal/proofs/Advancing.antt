@@ -7,7 +7,7 @@ use Prim.Native.Nat.{ℕ, _+_, _-_, _<_, _≤_}
 use lib.Dec.{eqb}
 use lib.ListN.{drop, length, length-drop}
 use mathlib.Core.Logic.{⊎-elim}
-use Rattle.rehearsal.specs.Scripts.{argumentIn, blamed, callIn, stepAt, turnIn}
+use Rattle.rehearsal.specs.Scripts.{admitIn, argumentIn, blamed, callIn, eventIn, oneIn, settingIn, stepAt, turnIn, twoIn}
 use Rattle.rehearsal.specs.declared.scripts.BadStep.{BadStep}
 use Rattle.rehearsal.specs.declared.scripts.Step.{Step}
 use Rattle.sheet.proofs.Bodies.{part-none}
@@ -33,14 +33,45 @@ argument-onward : (code : ℕ) (left : Left) → made (argumentIn code left) (λ
 argument-onward code left = blamed-made code (fieldIn left) (λ read. Onward left (read .1)) (field-onward left)
 
 -- a call ends in what is left
+abbrev Within : Left → ℕ → Type 0
+Within left end = (left .place ≤ end) × (end ≤ left .place + length (left .bytes))
+
 abbrev Ended : Left → Step × ℕ → Type 0
-Ended left found = (left .place ≤ found .1) × (found .1 ≤ left .place + length (left .bytes))
+Ended left found = Within left (found .1)
+
+one-ends : (code : ℕ) (left : Left) → made (oneIn code left) (λ read. Within left (read .1))
+one-ends code left = then (argumentIn code left) _ _ (λ read. Within left (read .1)) (argument-onward code left) (λ first h. (omega arith, omega arith))
+
+two-ends : (code : ℕ) (left : Left) → made (twoIn code left) (λ read. Within left (read .2))
+two-ends code left =
+    then (argumentIn code left) _ _ (λ read. Within left (read .2)) (argument-onward code left) (λ first h.
+    then (argumentIn code (first .1)) _ _ (λ read. Within left (read .2)) (argument-onward code (first .1)) (λ second k. (omega arith, omega arith)))
+
+admit-ends : (left : Left) → made (admitIn left) (Ended left)
+admit-ends left =
+    then (argumentIn 1 left) _ _ (Ended left) (argument-onward 1 left) (λ number h.
+    then (argumentIn 1 (number .1)) _ _ (Ended left) (argument-onward 1 (number .1)) (λ rate k.
+    then (argumentIn 1 (rate .1)) _ _ (Ended left) (argument-onward 1 (rate .1)) (λ period l. (omega arith, omega arith))))
+
+setting-ends : (code : ℕ) (left : Left) → made (settingIn code left) (Ended left)
+setting-ends code left = then (twoIn code left) _ _ (Ended left) (two-ends code left) (λ read h. h)
+
+event-ends : (code : ℕ) (left : Left) → made (eventIn code left) (Ended left)
+event-ends code left = then (oneIn code left) _ _ (Ended left) (one-ends code left) (λ read h. h)
 
 turn-ends : (left : Left) → made (turnIn left) (Ended left)
-turn-ends left = then (argumentIn 8 left) _ _ (Ended left) (argument-onward 8 left) (λ count h. (omega arith, omega arith))
+turn-ends left = then (oneIn 8 left) _ _ (Ended left) (one-ends 8 left) (λ read h. h)
 
 call-ends : (code : ℕ) (left : Left) (place : ℕ) → made (callIn code left place) (Ended left)
-call-ends code left place = cond-both (eqb code 8) _ _ (λ r. made r (Ended left)) (λ _. turn-ends left) (λ _. tt)
+call-ends code left place =
+    let P : Result (Step × ℕ) BadStep → Type 0 = λ r. made r (Ended left) in
+    cond-both (eqb code 1) _ _ P (λ _. admit-ends left)
+    (λ _. cond-both (eqb code 2) _ _ P (λ _. setting-ends 2 left)
+    (λ _. cond-both (eqb code 3) _ _ P (λ _. setting-ends 3 left)
+    (λ _. cond-both (eqb code 4) _ _ P (λ _. event-ends 4 left)
+    (λ _. cond-both (eqb code 5) _ _ P (λ _. event-ends 5 left)
+    (λ _. cond-both (eqb code 6) _ _ P (λ _. event-ends 6 left)
+    (λ _. cond-both (eqb code 8) _ _ P (λ _. turn-ends left) (λ _. tt)))))))
 
 abbrev Past : ℕ → ℕ → Option (Step × ℕ) → Type 0
 Past place end None = Unit {0}

@@ -10,8 +10,8 @@ use std::fmt;
 // What a line says of a call.
 #[derive(Clone, Copy)]
 pub enum Outcome {
-    // the sheet was taken, with so many tasks
-    Loaded(u32),
+    // the call was accepted: the count of tasks for a sheet, else 0
+    Accepted(u32),
     // the sheet has a fault
     Faulty(Told),
     // a turn was settled; the task's number, or 0 where it was idle
@@ -25,7 +25,7 @@ pub fn write_line(out: &mut String, clock: u64, code: u8, outcome: Outcome) -> f
     ensures { λ r. ⌜ made r (λ _. string-bytes (now (out .exit)) ≡ string-bytes (now (out .entry)) ++ lineOf clock code outcome) ⌝ }
 {
     match outcome {
-        Outcome::Loaded(tasks) => write!(out, "{clock} {code} ok {tasks}\n"),
+        Outcome::Accepted(tasks) => write!(out, "{clock} {code} ok {tasks}\n"),
         Outcome::Faulty(fault) => {
             let Told {
                 number,

@@ -5,7 +5,7 @@ ghost use mathlib.Core.Path.{_≡_};
 ghost use Rattle.controller.specs.Making.{made as madeOf};
 ghost use Rattle.controller.specs.Tied.{Tied};
 ghost use Rattle.rehearsal.specs.Opened.{openingOf};
-ghost use Rattle.rehearsal.specs.Rehearsals.{codeOf, linesOf, opening, performed, played, rehearsed};
+ghost use Rattle.rehearsal.specs.Rehearsals.{changeCode, codeOf, linesOf, opening, performed, played, rehearsed, saidOf};
 ghost use Rattle.rehearsal.specs.Scripts.{stepAt};
 ghost use Rattle.rehearsal.specs.Turns.{doneBy};
 ghost use Rattle.sheet.specs.Readings.{readingFrom};
@@ -13,14 +13,22 @@ ghost use Rattle.std.specs.Of.String.{string-bytes};
 ghost use Rattle.std.specs.Vec.{made};
 use crate::lines::Outcome;
 use crate::lines::write_line;
+use crate::scripts::ADMIT;
+use crate::scripts::FINISH;
+use crate::scripts::PERIOD;
+use crate::scripts::RATE;
 use crate::scripts::Step;
 use crate::scripts::TURN;
+use crate::scripts::WAIT;
+use crate::scripts::WAKE;
 use crate::scripts::step_at;
 use crate::turns::take_turn;
 use controller::make::make;
 use controller::memory::TaskMemory;
 use controller::states::Resting;
 use ready::ReadyList;
+use rules::changes::Change;
+use rules::refusals::Refusal;
 use sheet::records::Rest;
 use sheet::records::Told;
 use sheet::records::read_field;
@@ -51,6 +59,16 @@ fn read_opening<'a>(input: &'a [u8]) -> Result<(&'a [u8], usize), Told>
     Ok((&bytes[0..count], rest.place + count))
 }
 
+// What the line of a call on one task says.
+fn outcome_of(answer: Result<(), Refusal>) -> Outcome
+    ensures { λ r. ⌜ r ≡ saidOf answer ⌝ }
+{
+    match answer {
+        Ok(()) => Outcome::Accepted(0),
+        Err(why) => Outcome::Refused(why.code()),
+    }
+}
+
 // Carries out one call record.
 fn perform<L: ReadyList>(
     rest: Resting,
@@ -63,6 +81,14 @@ fn perform<L: ReadyList>(
     ensures tied { λ r. ⌜ Tied (r .0 .clock) (now (memory .exit) .slots) (L·ReadyList .held (now (list .exit))) (L·ReadyList .ok (now (list .exit))) ⌝ }
 {
     match step {
+        Step::Admit { asked } => {
+            let answer = rest.admit(asked, memory, list);
+            (rest, outcome_of(answer))
+        }
+        Step::Change { number, change } => {
+            let answer = rest.change(number, change, memory, list);
+            (rest, outcome_of(answer))
+        }
         Step::Turn { count } => take_turn(rest, count, memory, list),
     }
 }
@@ -72,7 +98,21 @@ fn code_of(step: Step) -> u8
     ensures { λ r. ⌜ r ≡ codeOf step ⌝ }
 {
     match step {
+        Step::Admit { .. } => ADMIT,
+        Step::Change { change, .. } => change_code(change),
         Step::Turn { .. } => TURN,
+    }
+}
+
+fn change_code(change: Change) -> u8
+    ensures { λ r. ⌜ r ≡ changeCode change ⌝ }
+{
+    match change {
+        Change::Rate(_) => RATE,
+        Change::Period(_) => PERIOD,
+        Change::Wait => WAIT,
+        Change::Wake => WAKE,
+        Change::Finish => FINISH,
     }
 }
 
@@ -127,7 +167,7 @@ fn play_sheet<L: ReadyList>(
     let (rest, answer) = make(sheet, &mut memory, list);
     match answer {
         Ok(tasks) => {
-            if write_line(out, 0, 0, Outcome::Loaded(tasks)).is_err() {
+            if write_line(out, 0, 0, Outcome::Accepted(tasks)).is_err() {
                 let _ = rest.retire();
                 return Err(fmt::Error);
             }

@@ -2,9 +2,11 @@
 ghost use lib.ListN.{length};
 ghost use mathlib.Core.Path.{_≡_};
 ghost use Prim.Native.Nat.{_+_, _^_, _<_};
-ghost use Rattle.rehearsal.specs.Scripts.{argumentIn, argumentOf, callIn, stepAt, turnIn};
+ghost use Rattle.rehearsal.specs.Scripts.{admitIn, argumentIn, argumentOf, callIn, eventIn, oneIn, settingIn, stepAt, turnIn, twoIn};
 ghost use Rattle.sheet.specs.Values.{leftOf};
 ghost use Rattle.std.specs.Vec.{made};
+use rules::admission::Reservation;
+use rules::changes::Change;
 use sheet::records::Field;
 use sheet::records::Rest;
 use sheet::records::read_field;
@@ -12,6 +14,8 @@ use sheet::records::read_field;
 // What a call record asks for.
 #[derive(Clone, Copy)]
 pub enum Step {
+    Admit { asked: Reservation },
+    Change { number: u32, change: Change },
     // begin, then settle with the count
     Turn { count: u32 },
 }
@@ -23,7 +27,19 @@ pub struct BadStep {
     pub number: u8,
 }
 
-// The code byte of a turn.
+// The code bytes of the calls.
+pub const ADMIT: u8 = 1;
+
+pub const RATE: u8 = 2;
+
+pub const PERIOD: u8 = 3;
+
+pub const WAIT: u8 = 4;
+
+pub const WAKE: u8 = 5;
+
+pub const FINISH: u8 = 6;
+
 pub const TURN: u8 = 8;
 
 // No call has this code byte.
@@ -44,13 +60,75 @@ fn argument<'a>(code: u8, rest: Rest<'a>) -> Result<(Field, Rest<'a>), BadStep>
     }
 }
 
-// A turn, and the offset just past it.
+// One number of a call, and the offset just past it.
+fn read_one(code: u8, rest: Rest) -> Result<(u32, usize), BadStep>
+    requires { ⌜ rest .place + length (now (rest .bytes)) < 2 ^ 64 ⌝ }
+    ensures { λ r. ⌜ r ≡ oneIn code (leftOf (rest .entry)) ⌝ }
+{
+    let (first, rest) = argument(code, rest)?;
+    Ok((first.value, rest.place))
+}
+
+// Two numbers of a call, and the offset just past them.
+fn read_two(code: u8, rest: Rest) -> Result<(u32, u32, usize), BadStep>
+    requires { ⌜ rest .place + length (now (rest .bytes)) < 2 ^ 64 ⌝ }
+    ensures { λ r. ⌜ r ≡ twoIn code (leftOf (rest .entry)) ⌝ }
+{
+    let (first, rest) = argument(code, rest)?;
+    let (second, rest) = argument(code, rest)?;
+    Ok((first.value, second.value, rest.place))
+}
+
+// Number, rate and period, and the offset just past them.
+fn read_admit(rest: Rest) -> Result<(Step, usize), BadStep>
+    requires { ⌜ rest .place + length (now (rest .bytes)) < 2 ^ 64 ⌝ }
+    ensures { λ r. ⌜ r ≡ admitIn (leftOf (rest .entry)) ⌝ }
+{
+    let (number, rest) = argument(ADMIT, rest)?;
+    let (rate, rest) = argument(ADMIT, rest)?;
+    let (period, rest) = argument(ADMIT, rest)?;
+    let asked = Reservation {
+        number: number.value,
+        rate: rate.value,
+        period: period.value,
+    };
+    Ok((Step::Admit { asked }, rest.place))
+}
+
+// A change to a value: rate or period.
+fn read_setting(code: u8, rest: Rest) -> Result<(Step, usize), BadStep>
+    requires { ⌜ rest .place + length (now (rest .bytes)) < 2 ^ 64 ⌝ }
+    ensures { λ r. ⌜ r ≡ settingIn code (leftOf (rest .entry)) ⌝ }
+{
+    let (number, value, end) = read_two(code, rest)?;
+    let change = if code == RATE {
+        Change::Rate(value)
+    } else {
+        Change::Period(value)
+    };
+    Ok((Step::Change { number, change }, end))
+}
+
+// Wait, wake or finish.
+fn read_event(code: u8, rest: Rest) -> Result<(Step, usize), BadStep>
+    requires { ⌜ rest .place + length (now (rest .bytes)) < 2 ^ 64 ⌝ }
+    ensures { λ r. ⌜ r ≡ eventIn code (leftOf (rest .entry)) ⌝ }
+{
+    let (number, end) = read_one(code, rest)?;
+    let change = match code {
+        WAIT => Change::Wait,
+        WAKE => Change::Wake,
+        _ => Change::Finish,
+    };
+    Ok((Step::Change { number, change }, end))
+}
+
 fn read_turn(rest: Rest) -> Result<(Step, usize), BadStep>
     requires { ⌜ rest .place + length (now (rest .bytes)) < 2 ^ 64 ⌝ }
     ensures { λ r. ⌜ r ≡ turnIn (leftOf (rest .entry)) ⌝ }
 {
-    let (count, rest) = argument(TURN, rest)?;
-    Ok((Step::Turn { count: count.value }, rest.place))
+    let (count, end) = read_one(TURN, rest)?;
+    Ok((Step::Turn { count }, end))
 }
 
 // What stands behind a code byte; the code is judged before the numbers.
@@ -59,6 +137,12 @@ fn read_call(code: u8, rest: Rest) -> Result<(Step, usize), BadStep>
     ensures { λ r. ⌜ r ≡ callIn code (leftOf (rest .entry)) 0 ⌝ }
 {
     match code {
+        ADMIT => read_admit(rest),
+        RATE => read_setting(RATE, rest),
+        PERIOD => read_setting(PERIOD, rest),
+        WAIT => read_event(WAIT, rest),
+        WAKE => read_event(WAKE, rest),
+        FINISH => read_event(FINISH, rest),
         TURN => read_turn(rest),
         _ => Err(BadStep {
             code,

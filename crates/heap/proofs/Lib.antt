@@ -1,0 +1,7 @@
+mod Standing
+mod Moves
+mod Paths
+mod Steps
+mod Root
+mod Entering
+mod Leaving
