@@ -42,14 +42,16 @@ fn lines_of(rt: &LibcRuntime, options: Options, input: &[u8]) -> Result<String, 
     }
 }
 
-fn run(rt: &LibcRuntime) -> Result<(), AnyError> {
+// The options of the command line, or none where it is no such command line.
+fn read_options(rt: &LibcRuntime) -> Result<Option<Options>, AnyError> {
     let mut words = Vec::new(rt.alloc());
     for word in env::args(rt)?.skip(1) {
         words.push(word)?;
     }
-    let Some(options) = parse(words.as_slice()) else {
-        return Err(USAGE.into());
-    };
+    Ok(parse(words.as_slice()))
+}
+
+fn run(rt: &LibcRuntime, options: Options) -> Result<(), AnyError> {
     let input = read_input(rt)?;
     let lines = lines_of(rt, options, input.as_slice())?;
     print!(rt, "{lines}")?;
@@ -57,5 +59,9 @@ fn run(rt: &LibcRuntime) -> Result<(), AnyError> {
 }
 
 fn main(rt: LibcRuntime) -> Result<(), AnyError> {
-    rt.report(run(&rt))
+    let Some(options) = read_options(&rt)? else {
+        eprintln!(rt, "{USAGE}")?;
+        return Err("no such command line".into());
+    };
+    rt.report(run(&rt, options))
 }
