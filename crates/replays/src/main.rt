@@ -16,7 +16,12 @@ use table::TableList;
 const STORED: u32 = 69;
 
 // Whether a rehearsal over this list prints what is stored.
-fn agrees<L: ReadyList>(rt: &LibcRuntime, input: &[u8], stored: &[u8], list: &mut L) -> Result<bool, AnyError> {
+fn agrees<L: ReadyList>(
+    rt: &LibcRuntime,
+    input: &[u8],
+    stored: &[u8],
+    list: &mut L,
+) -> Result<bool, AnyError> {
     let lines = rehearse(rt.alloc(), input, list)?;
     Ok(lines.as_str().as_bytes() == stored)
 }
@@ -48,7 +53,10 @@ fn run(rt: &LibcRuntime) -> Result<(), AnyError> {
             println!(rt, "{number:02} comes out otherwise")?;
         }
     }
-    println!(rt, "{agreed} of {STORED} rehearsals agree over both lists and both orders")?;
+    println!(
+        rt,
+        "{agreed} of {STORED} rehearsals agree over both lists and both orders"
+    )?;
     Ok(())
 }
 
