@@ -9,7 +9,7 @@ use crate::tasks::Task;
 use order::entries::is_task_number;
 
 // What is asked for: a task number, a rate in thousandths and a period in ticks.
-#[derive(Clone, Copy, PartialEq, Eq, Debug)]
+#[derive(Clone, Copy)]
 pub struct Reservation {
     pub number: u32,
     pub rate: u32,

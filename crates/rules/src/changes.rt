@@ -11,7 +11,7 @@ use crate::refusals::Refusal;
 use crate::tasks::Task;
 
 // What is asked of a task.
-#[derive(Clone, Copy, PartialEq, Eq, Debug)]
+#[derive(Clone, Copy)]
 pub enum Change {
     Rate(u32),
     Period(u32),

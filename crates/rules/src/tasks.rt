@@ -2,11 +2,10 @@
 ghost use mathlib.Core.Path.{_≡_};
 ghost use Rattle.rules.specs.Tasks.{entryOf, rateOf};
 use crate::phases::Phase;
-use crate::phases::PhaseDebug;
 use crate::phases::PhasePartialEq;
 use order::entries::Entry;
 
-#[derive(Clone, Copy, PartialEq, Eq, Debug)]
+#[derive(Clone, Copy)]
 pub struct Task {
     pub number: u32,
     // thousandths of the processor

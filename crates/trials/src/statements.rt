@@ -1,0 +1,12 @@
+// Edge cases of the rules, in one table under one statement.
+ghost use lib.ListN.{length};
+ghost use mathlib.Core.Path.{_≡_};
+ghost use Rattle.trials.specs.Edges.{AllHold, cases};
+
+// How many cases the table has; the statement says that they all hold.
+pub fn edge_cases() -> usize
+    ensures count { λ r. ⌜ r ≡ length cases ⌝ }
+    ensures hold { λ _. ⌜ AllHold cases ⌝ }
+{
+    10
+}
