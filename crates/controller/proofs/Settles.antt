@@ -39,25 +39,25 @@ use Rattle.std.specs.declared.option.Option.the-variants.{Some, None}
 use Rattle.std.specs.declared.result.Result.the-variants.{Ok, Err}
 use Rattle.std.specs.shelf.Lists.{All, sumBy}
 
-abbrev PassedSlot : ℕ → Option Task → Type 0
+abbrev pub PassedSlot : ℕ → Option Task → Type 0
 PassedSlot T None = Unit {0}
 PassedSlot T (Some t) = Passed T t
 
 -- the nearest deadline is at most the bound that it starts from
-nearest-le : (bound : ℕ) (tasks : Tasks) → folded sooner bound tasks ≤ bound
+pub nearest-le : (bound : ℕ) (tasks : Tasks) → folded sooner bound tasks ≤ bound
 nearest-le bound [] = omega arith
 nearest-le bound (None ∷ tasks) = nearest-le bound tasks
 nearest-le bound (Some t ∷ tasks) = omega (arith, nearest-le (min bound (t .deadline)) tasks)
 
 -- time passes up to the nearest deadline
-pass-all : (T c bound : ℕ) (tasks : Tasks) → T + c ≤ folded sooner bound tasks → All (SoundSlot T) tasks → All (PassedSlot (T + c)) tasks
+pub pass-all : (T c bound : ℕ) (tasks : Tasks) → T + c ≤ folded sooner bound tasks → All (SoundSlot T) tasks → All (PassedSlot (T + c)) tasks
 pass-all T c bound [] le all = tt
 pass-all T c bound (None ∷ tasks) le all = (tt, pass-all T c bound tasks le (all .1))
 pass-all T c bound (Some t ∷ tasks) le all =
     (passes T c t (all .0) (omega (arith, nearest-le (min bound (t .deadline)) tasks)), pass-all T c (min bound (t .deadline)) tasks le (all .1))
 
 -- every deadline that has come is dealt with
-due-slot : (T : ℕ) (slot : Option Task) → PassedSlot T slot → SoundSlot T (dueAt T slot)
+pub due-slot : (T : ℕ) (slot : Option Task) → PassedSlot T slot → SoundSlot T (dueAt T slot)
 due-slot T None p = tt
 due-slot T (Some t) p = due-sound T t p
 
@@ -69,7 +69,7 @@ charge-slot : (T c : ℕ) (slot : Option Task) → Chargeable c slot → PassedS
 charge-slot T c None able p = tt
 charge-slot T c (Some t) able p = charged-passed T c t _ refl (able .0) p
 
-charge-all : (T c : ℕ) (runs : Runs) (tasks : Tasks) → length tasks ≡ 64 → Runner runs c tasks → All (PassedSlot T) tasks → All (PassedSlot T) (chargedIn runs c tasks)
+pub charge-all : (T c : ℕ) (runs : Runs) (tasks : Tasks) → length tasks ≡ 64 → Runner runs c tasks → All (PassedSlot T) tasks → All (PassedSlot T) (chargedIn runs c tasks)
 charge-all T c Idle tasks many runner all = all
 charge-all T c (runs-task number deadline) tasks many runner all =
     let slot = getD tasks (number - 1) None in
@@ -120,7 +120,7 @@ module _ (before : Entry → Entry → Bool) (laws : Lawful before) (turn : Turn
   few′ = subst (λ t. c ≤ t .length) (opened .asked) few
 
   -- no deadline is jumped over
-  in-room : turn .start + c ≤ nearest tasks
+  pub in-room : turn .start + c ≤ nearest tasks
   in-room = omega (arith, few′, length-room (turn .start) tasks (firstOf before held), nearest-after (turn .start) tasks (opened .early) (opened .rest .sound))
 
   pub in-time : turn .start + c ≤ 2 ^ 40

@@ -55,7 +55,7 @@ fn with_option(options: Options, flag: &str, value: &str) -> Option<Options> {
 }
 
 // The options that the words of a command line give, or none where they are no such command line.
-pub fn parse(words: &[String]) -> Option<Options> {
+pub(crate) fn parse(words: &[String]) -> Option<Options> {
     let nothing = Options {
         list: None,
         order: None,

@@ -30,7 +30,7 @@ pub record RateFits (T rates : ℕ) (t : Task) (rate : ℕ) : Type 0 where
   pub shared : rates - t .rate + rate ≤ 1000
   pub enough : loweredBy T t rate ≤ t .left
 
-rate-fits : (T rates : ℕ) (t : Task) (rate : ℕ) → whyNotRate T rates t rate ≡ None → RateFits T rates t rate
+pub rate-fits : (T rates : ℕ) (t : Task) (rate : ℕ) → whyNotRate T rates t rate ≡ None → RateFits T rates t rate
 rate-fits T rates t rate is =
     record { low = grind (arith, tells); high = grind (arith, tells); worth = grind (arith, tells); shared = grind (arith, tells); enough = grind (arith, tells) }
 
@@ -64,7 +64,7 @@ pub record PeriodFits (T : ℕ) (t : Task) (period : ℕ) : Type 0 where
   pub after : T < deadlineAt t period
   pub enough : advancedBy t (deadlineAt t period) ≤ t .left
 
-period-fits : (T : ℕ) (t : Task) (period : ℕ) → whyNotPeriod T t period ≡ None → PeriodFits T t period
+pub period-fits : (T : ℕ) (t : Task) (period : ℕ) → whyNotPeriod T t period ≡ None → PeriodFits T t period
 period-fits T t period is =
     record { low = grind (arith, tells); high = grind (arith, tells); worth = grind (arith, tells); after = grind (arith, tells); enough = grind (arith, tells) }
 
