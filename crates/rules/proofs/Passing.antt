@@ -116,9 +116,3 @@ pub few-ticks : (T : ℕ) (t : Task) → Sound T t → t .left + t .ran ≤ t .p
 few-ticks T t s =
     let most : t .rate * (t .deadline - T) ≤ 1000 * (t .deadline - T) = mul-le-mul-right (t .deadline - T) (s .rateHigh) in
     omega (arith, s .bounded, s .spans, s .begun, s .coming)
-
--- what a rate gives until the deadline, in thousandths, is little
-pub share-few : (T : ℕ) (t : Task) → Sound T t → t .rate * (t .deadline - T) ≤ 1000000000
-share-few T t s =
-    let most : t .rate * (t .deadline - T) ≤ 1000 * (t .deadline - T) = mul-le-mul-right (t .deadline - T) (s .rateHigh) in
-    omega (arith, s .spans, s .begun, s .periodHigh)
