@@ -1,6 +1,8 @@
 // The controller: 64 task slots, a ready list, a clock, and the turns it hands out.
 // Promises: every call is an equation for its answer, the tasks, the list and the clock, over any lawful ready list.
 // Knows nothing of how a list is stored, nor of the program that drives it.
+#![tactic(auto)]
+
 pub mod admit;
 pub mod begin;
 pub mod changes;

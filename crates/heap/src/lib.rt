@@ -1,6 +1,8 @@
 // The heap: a ready list whose entries stand in a binary tree, each after the one above it.
 // Promises: the meaning of a ready list; put and take out touch one path of the tree, first reads its root.
 // Knows nothing of tasks and clocks.
+#![tactic(auto)]
+
 mod memory;
 mod sifts;
 

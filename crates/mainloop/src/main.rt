@@ -1,5 +1,7 @@
 // A firmware's main loop in small: a controller is made from a sheet, and tasks are changed between turns.
 // Shows how state, task memory and ready list are kept together from call to call; README explains it.
+#![tactic(auto)]
+
 ghost use Rattle.controller.specs.Tied.{Open, Tied};
 
 use controller::make::make;

@@ -1,6 +1,8 @@
 // The promise: every task gets what it was sold before each of its deadlines, whatever list of calls a controller is put through.
 // Promises: the call that carries out a list of calls says so, whole; the same law stands for calls that are made one by one.
 // Knows the meaning of a ready list and the laws of a tie order, and no list or order by name.
+#![tactic(auto)]
+
 ghost use Rattle.promise.specs.Kept.{AdmissionKeeps, ChangeKeeps, DeadlineIsMet, EmptyIsFeasible, TurnKeeps};
 ghost use Rattle.promise.specs.Promised.{OneByOne};
 

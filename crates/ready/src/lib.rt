@@ -1,6 +1,8 @@
 // The ready list, by its meaning: which entries it holds and which of them comes first.
 // Promises: every list that keeps these contracts serves every caller alike.
 // Knows nothing of how a list is stored, nor of tasks and clocks.
+#![tactic(auto)]
+
 ghost use Rattle.std.specs.Prelude.{◌≡◌};
 ghost use Rattle.ready.specs.Held.{Held, Least, Slotted, first_of, free, holds, none, put_in, taken_out};
 

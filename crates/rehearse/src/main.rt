@@ -1,4 +1,6 @@
 // The rehearsal program: standard input to standard output, over the ready list and the tie order that the command line names.
+#![tactic(auto)]
+
 mod options;
 
 use anyhow::anyhow;

@@ -1,4 +1,6 @@
 // Replays stored rehearsals over both lists and both orders, and tells which of them come out otherwise than stored.
+#![tactic(auto)]
+
 use heap::Heap;
 use order::ties::{ByNumber, ByRate};
 use ready::ReadyList;

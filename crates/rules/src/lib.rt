@@ -1,6 +1,8 @@
 // The rules of one task: its phase, its jobs, what a deadline does to it, who may be admitted, how it changes and how it goes.
 // Promises: each rule is one pure function with one equation, refusals in their order.
 // Knows no table of tasks, no ready list and no controller.
+#![tactic(auto)]
+
 pub mod admission;
 pub mod changes;
 pub mod jobs;

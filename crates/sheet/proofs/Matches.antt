@@ -1,21 +1,15 @@
 -- The first match of a name, carried from record to record.
-use Rattle.std.proofs.Common.{◌≡◌, ℕ, zero, suc, ◌-◌, ◌≤◌, Bool, List, length, IfOk, Some, None, Ok, Err, Decides, Option, Result, sym, refl, ap, ◌∙◌, subst, ⊎_elim, arith}
-use Rattle.std.specs.Cmp.Lexicographic.{Matches}
+use Rattle.std.proofs.Common.{◌≡◌, ℕ, zero, suc, ◌-◌, ◌≤◌, Bool, List, length, IfOk, Some, None, Ok, Err, Option, Result, sym, refl, ap, ◌∙◌, subst, ⊎_elim, arith}
 use Rattle.std.specs.Option.{option_or}
 use Rattle.std.specs.Str.{bytes_eq}
-use Rattle.std.proofs.lemmas.Slice.Eq.{slice_eq-Decides, bytes_eq-Decides}
+use Rattle.std.proofs.lemmas.Slice.Eq.{bytes_eq-Decides}
 use Rattle.std.proofs.lemmas.Bool.{cond_both}
-use Rattle.std.proofs.lemmas.Bool.Decides.{same_from_decides, Decides-eqb}
 use Rattle.sheet.specs.declared.records.RecordFault.{RecordFault}
 use Rattle.sheet.specs.Records.{RecordValue, task, note, record_at}
 use Rattle.sheet.specs.Sheets.{Sheet, Unfit, before, named, found_in, sheet_from, sheet_of}
 use Rattle.sheet.proofs.Ends.{TaskName}
 use Rattle.sheet.proofs.Laws.{advances, progress, name_length}
 use Rattle.sheet.proofs.Readings.{reading_entry, reading_fault, reading_none}
-
--- what `==` says of two names
-pub same_name : (xs ys : List ℕ) (r : Bool) → Matches (λ (a b : ℕ) (t : Bool). Decides t (a ≡ b)) xs ys r → r ≡ bytes_eq xs ys
-same_name xs ys r h = same_from_decides r (bytes_eq xs ys) (slice_eq-Decides Decides-eqb xs ys r h) (bytes_eq-Decides xs ys)
 
 in_turn : (first here : Option ℕ) (r : Result (Option ℕ) RecordFault) → before first (before here r) ≡ before (option_or first here) r
 in_turn (Some place) here (Ok later) = refl

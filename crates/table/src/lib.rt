@@ -1,6 +1,8 @@
 // The searched table: a ready list whose slots are the task numbers themselves.
 // Promises: the meaning of a ready list; put and take out touch one slot, first looks through all.
 // Knows nothing of tasks and clocks.
+#![tactic(auto)]
+
 ghost use Rattle.std.specs.Prelude.{◌≡◌};
 ghost use Rattle.ready.specs.Held.{Slotted, better as better_of, none};
 ghost use Rattle.std.proofs.Common.{rules};

@@ -11,11 +11,11 @@ returns g c =
     let T = c.args.clock in
     let tasks = c.args.memory.now.slots in
     let asked = c.args.asked in
-    let t = c.in-ok-task.task in
+    let t = c.in_ok-task.task in
     let held = g.L.ReadyList.held c.store.new.list in
     let ok = g.L.ReadyList.ok c.store.new.list in
     let is : admission_to T tasks asked ≡ Ok t =
-    sym (c.in-ok-task.ensures ∙ (ap (λ k. admission T k c.rates.result asked) (c.is-some-taken.ensures ∙ ap is_some c.task-at.ensures) ∙ ap (λ n. admission T (is_taken tasks asked.number) n asked) c.rates.ensures)) in
+    sym (c.in_ok-task.ensures ∙ (ap (λ k. admission T k c.rates.result asked) (c.is_some-taken.ensures ∙ ap is_some c.task_at.ensures) ∙ ap (λ n. admission T (is_taken tasks asked.number) n asked) c.rates.ensures)) in
     record {
       answer = sym (ap accepted is);
       tasks = c.store.ensures.tasks ∙ sym (ap (λ r. with_task r tasks) is);

@@ -4,8 +4,8 @@ use Rattle.controller.proofs.make.count.Goals.{then-is-some, else-is-some}
 use Rattle.std.proofs.lemmas.List.{length-take, take_all}
 use Rattle.std.proofs.lemmas.List.Sums.{count_by-le-length, count_by_more_no, count_by_more_yes}
 
-pub overflow-add-tasks : goal.overflow-add-tasks
-overflow-add-tasks c =
+pub overflow_add-tasks : goal.overflow_add-tasks
+overflow_add-tasks c =
     let slots = c.args.memory.now.slots in
     let i = c.loop-slot.slot-index in
     let lt : i < length slots = omega arith in
@@ -16,9 +16,9 @@ loop-slot-preserved c =
     let slots = c.args.memory.now.slots in
     let i = c.loop-slot.slot-index in
     let lt : i < length slots = omega arith in
-    elim c.if-is-some.branch [
-      | then-is-some w ↦ omega (arith, w.tasks-is, c.loop-slot.invariant, count_by_more_yes is_some slots i None lt (sym c.is-some.ensures ∙ w.if-is-some.true))
-      | else-is-some w ↦ omega (arith, w.tasks-is, c.loop-slot.invariant, count_by_more_no is_some slots i None lt (sym c.is-some.ensures ∙ w.if-is-some.false))
+    elim c.if-is_some.branch [
+      | then-is-some w ↦ omega (arith, w.tasks-is, c.loop-slot.invariant, count_by_more_yes is_some slots i None lt (sym c.is_some.ensures ∙ w.if-is_some.true))
+      | else-is-some w ↦ omega (arith, w.tasks-is, c.loop-slot.invariant, count_by_more_no is_some slots i None lt (sym c.is_some.ensures ∙ w.if-is_some.false))
     ]
 
 pub returns : goal.returns

@@ -8,6 +8,6 @@ pub returns-in-Err : goal.returns-in-Err
 returns-in-Err g c =
     let asked = task_value c.args.task in
     record {
-      answer = join_refused (admission_to 0 c.args.memory.now.slots (reservation asked)) asked c.args.memory.now.slots c.in-Err.why c.place-of.result c.in-Err.ensures.answer c.place-of.ensures;
+      answer = join_refused (admission_to 0 c.args.memory.now.slots (reservation asked)) asked c.args.memory.now.slots c.in-Err.why c.place_of.result c.in-Err.ensures.answer c.place_of.ensures;
       tied = c.enrol.ensures.tied;
     }

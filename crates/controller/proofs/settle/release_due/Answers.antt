@@ -12,7 +12,7 @@ store-requires g c =
     let place = c.loop-place.place in
     record {
       place = c.loop-place-test.true;
-      fits = subst (InSlot place) (sym c.due-at.ensures)
+      fits = subst (InSlot place) (sym c.due_at.ensures)
           (in_slot_due c.args.clock place (get_or slots place None) (in_slot_at slots (g.L.ReadyList.held c.loop-place.list) place c.loop-place-test.true c.loop-place.invariant.1));
       mirror = c.loop-place.invariant.1;
       memory = c.loop-place.invariant.2;
@@ -27,7 +27,7 @@ loop-place-preserved g c =
     let lt : place < length slots = omega (arith, c.loop-place.invariant.1.many, c.loop-place-test.true) in
     let lt' : place < length start = omega (arith, c.requires.mirror.many, c.loop-place-test.true) in (
       c.store.ensures.tasks
-          ∙ (ap (set slots place) c.due-at.ensures ∙ map_over_more (due_at c.args.clock) start slots place x lt' c.loop-place.invariant.0 (get_or_default slots place None x lt)),
+          ∙ (ap (set slots place) c.due_at.ensures ∙ map_over_more (due_at c.args.clock) start slots place x lt' c.loop-place.invariant.0 (get_or_default slots place None x lt)),
       c.store.ensures.mirror,
       c.store.ensures.memory,
     )

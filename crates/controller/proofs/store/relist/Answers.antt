@@ -13,14 +13,14 @@ returns-then-unchanged g c =
 pub returns-in-Some : goal.returns-in-Some
 returns-in-Some g c =
     record {
-      list = relisted (g.L.ReadyList.held c.args.list.now) (g.L.ReadyList.held c.take-out.new.self) (g.L.ReadyList.held c.put.new.self) c.args.number c.in-Some.e c.args.is
-          (g.met.L.ReadyList.slotted c.args.list.now c.requires.memory) c.requires.range c.in-Some.is c.requires.fits c.take-out.ensures.list c.put.ensures.list;
+      list = relisted (g.L.ReadyList.held c.args.list.now) (g.L.ReadyList.held c.take_out.new.self) (g.L.ReadyList.held c.put.new.self) c.args.number c.in-Some.e c.args.is
+          (g.met.L.ReadyList.slotted c.args.list.now c.requires.memory) c.requires.range c.in-Some.is c.requires.fits c.take_out.ensures.list c.put.ensures.list;
       memory = c.put.ensures.memory;
     }
 
-pub returns-in-default : goal.returns-in-default
-returns-in-default g c =
+pub returns-in_default : goal.returns-in_default
+returns-in_default g c =
     record {
-      list = c.take-out.ensures.list ∙ (taken_set (g.L.ReadyList.held c.args.list.now) c.args.number c.requires.range ∙ ap (set (g.L.ReadyList.held c.args.list.now) (c.args.number - 1)) (sym c.in-default.is));
-      memory = c.take-out.ensures.memory;
+      list = c.take_out.ensures.list ∙ (taken_set (g.L.ReadyList.held c.args.list.now) c.args.number c.requires.range ∙ ap (set (g.L.ReadyList.held c.args.list.now) (c.args.number - 1)) (sym c.in_default.is));
+      memory = c.take_out.ensures.memory;
     }

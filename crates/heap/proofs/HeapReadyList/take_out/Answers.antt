@@ -3,9 +3,9 @@ use Rattle.heap.proofs.Leaving.{leaving, not_leaving}
 use Rattle.heap.specs.Sound.{held_in}
 use Rattle.heap.proofs.HeapReadyList.take_out.Goals as goal
 
-pub returns-in-default : goal.returns-in-default
-returns-in-default g c =
-    let told = not_leaving g.O.TieOrder.before c.args.self.now.tree c.requires c.args.number c.in-default.ensures in
+pub returns-in_default : goal.returns-in_default
+returns-in_default g c =
+    let told = not_leaving g.O.TieOrder.before c.args.self.now.tree c.requires c.args.number c.in_default.ensures in
     record { answer = told.0; list = told.1; memory = c.requires }
 
 pub settle-requires : goal.settle-requires

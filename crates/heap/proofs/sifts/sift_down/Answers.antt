@@ -44,5 +44,5 @@ returns g c =
     let held = held_in (laid c.args.tree.now c.args.place e) in
     let before = g.O.TieOrder.before in
     let laws = g.met.O.TieOrder.lawful in
-    let told = sinks_ends before laws l.tree held l.hole e l.invariant.0 c.lay-2.new.self c.lay-2.ensures l.invariant.1 c.in-default.ensures in
+    let told = sinks_ends before laws l.tree held l.hole e l.invariant.0 c.lay-2.new.self c.lay-2.ensures l.invariant.1 c.in_default.ensures in
     record { list = told.0; memory = told.1 }

@@ -3,17 +3,17 @@ use Rattle.sheet.proofs.Groups.{number_within}
 use Rattle.sheet.proofs.Fields.{field_read, field_room}
 use Rattle.sheet.proofs.records.read_field.Goals as goal
 
-pub slice-bounds-after-count : goal.slice-bounds-after-count
-slice-bounds-after-count c = (number_within _ _ _ c.in-ok-value.ensures).1
+pub slice_bounds-after-count : goal.slice_bounds-after-count
+slice_bounds-after-count c = (number_within _ _ _ c.in_ok-value.ensures).1
 
-pub slice-bounds-after-start : goal.slice-bounds-after-start
-slice-bounds-after-start c = (number_within _ _ _ c.in-ok-value.ensures).1
+pub slice_bounds-after-start : goal.slice_bounds-after-start
+slice_bounds-after-start c = (number_within _ _ _ c.in_ok-value.ensures).1
 
-pub overflow-add-after : goal.overflow-add-after
-overflow-add-after c = omega (arith, number_within _ _ _ c.in-ok-value.ensures)
+pub overflow_add-after : goal.overflow_add-after
+overflow_add-after c = omega (arith, number_within _ _ _ c.in_ok-value.ensures)
 
 pub returns : goal.returns
 returns c = record {
-  value = field_read _ _ _ c.in-ok-value.ensures;
-  room = field_room _ _ _ c.in-ok-value.ensures c.requires;
+  value = field_read _ _ _ c.in_ok-value.ensures;
+  room = field_room _ _ _ c.in_ok-value.ensures c.requires;
 }

@@ -5,9 +5,9 @@ use Rattle.sheet.proofs.records.read_name.Goals as goal
 
 pub returns-in-Some : goal.returns-in-Some
 returns-in-Some c =
-    name_judged c.args.size (left_of c.args.rest) _ _ c.min-present.ensures c.in-Some.ensures c.if-size-lt-SHORTEST-NAME.false c.if-size-gt-LONGEST-NAME.false
+    name_judged c.args.size (left_of c.args.rest) _ _ c.min-present.ensures c.in-Some.ensures c.if-size-lt-SHORTEST_NAME.false c.if-size-gt-LONGEST_NAME.false
 
 pub returns : goal.returns
 returns c =
-    c.read-text.ensures
-    ∙ name_judged c.args.size (left_of c.args.rest) _ _ c.min-present.ensures c.in-default.ensures c.if-size-lt-SHORTEST-NAME.false c.if-size-gt-LONGEST-NAME.false
+    c.read_text.ensures
+    ∙ name_judged c.args.size (left_of c.args.rest) _ _ c.min-present.ensures c.in_default.ensures c.if-size-lt-SHORTEST_NAME.false c.if-size-gt-LONGEST_NAME.false

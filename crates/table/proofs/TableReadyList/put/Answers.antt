@@ -8,8 +8,8 @@ pub returns : goal.returns
 returns g c =
     let slots = c.args.self.now.slots in
     let e = c.args.e in
-    let range = c.if-not-is-task-number.ensures in
-    let yes' = free_yes slots e.number range c.if-is-some.ensures in
+    let range = c.if-not-is_task_number.ensures in
+    let yes' = free_yes slots e.number range c.if-is_some.ensures in
     record {
       answer = yes';
       list = sym (cond-true (free slots e.number) (set slots (e.number - 1) (Some e)) slots (sym yes'));

@@ -8,7 +8,7 @@ pub returns : goal.returns
 returns g c =
     let slots = c.args.self.now.slots in
     let n = c.args.number in
-    let yes' : true ≡ holds slots n = sym c.if-is-none.ensures ∙ holds_slot slots n c.if-not-is-task-number.ensures in
+    let yes' : true ≡ holds slots n = sym c.if-is_none.ensures ∙ holds_slot slots n c.if-not-is_task_number.ensures in
     record {
       answer = yes';
       list = sym (cond-true (holds slots n) (set slots (n - 1) None) slots (sym yes'));

@@ -24,8 +24,8 @@ store-requires g c =
     let ok = g.L.ReadyList.ok c.args.list.now in
     let t = c.in-Some.task in
     let is = sym c.in-Some.ensures in
-    let got : changed T (rates tasks) t c.args.change ≡ Ok c.in-ok-next.next = sym (c.in-ok-next.ensures ∙ ap (λ n. changed T n t c.args.change) c.rates.ensures) in
-    let at = in_place T tasks held ok c.requires c.args.number t is (Some c.in-ok-next.next) (changed_kept T tasks held ok c.requires c.args.number t is c.args.change c.in-ok-next.next got) in
+    let got : changed T (rates tasks) t c.args.change ≡ Ok c.in_ok-next.next = sym (c.in_ok-next.ensures ∙ ap (λ n. changed T n t c.args.change) c.rates.ensures) in
+    let at = in_place T tasks held ok c.requires c.args.number t is (Some c.in_ok-next.next) (changed_kept T tasks held ok c.requires c.args.number t is c.args.change c.in_ok-next.next got) in
     record { place = at.0; fits = at.1; mirror = c.requires.mirror; memory = c.requires.memory }
 
 pub returns : goal.returns
@@ -35,9 +35,9 @@ returns g c =
     let held = g.L.ReadyList.held c.args.list.now in
     let ok = g.L.ReadyList.ok c.args.list.now in
     let t = c.in-Some.task in
-    let u = c.in-ok-next.next in
+    let u = c.in_ok-next.next in
     let is = sym c.in-Some.ensures in
-    let got : changed T (rates tasks) t c.args.change ≡ Ok u = sym (c.in-ok-next.ensures ∙ ap (λ n. changed T n t c.args.change) c.rates.ensures) in
+    let got : changed T (rates tasks) t c.args.change ≡ Ok u = sym (c.in_ok-next.ensures ∙ ap (λ n. changed T n t c.args.change) c.rates.ensures) in
     let kept = changed_kept T tasks held ok c.requires c.args.number t is c.args.change u got in
     let whole = outcome T tasks held ok c.requires c.args.number t is c.args.change u got in
     let held' = g.L.ReadyList.held c.store.new.list in

@@ -18,8 +18,8 @@ store-requires g c =
     let ok = g.L.ReadyList.ok c.args.list.now in
     let t = c.in-Some.task in
     let is = sym c.in-Some.ensures in
-    let slot = c.in-ok-slot.slot in
-    let kept = withdrawal_kept T tasks held ok c.requires c.args.number t is slot (sym c.in-ok-slot.ensures) in
+    let slot = c.in_ok-slot.slot in
+    let kept = withdrawal_kept T tasks held ok c.requires c.args.number t is slot (sym c.in_ok-slot.ensures) in
     let at = in_place T tasks held ok c.requires c.args.number t is slot kept in
     record { place = at.0; fits = at.1; mirror = c.requires.mirror; memory = c.requires.memory }
 
@@ -31,15 +31,15 @@ returns g c =
     let ok = g.L.ReadyList.ok c.args.list.now in
     let t = c.in-Some.task in
     let is = sym c.in-Some.ensures in
-    let slot = c.in-ok-slot.slot in
-    let got : withdrawn T t ≡ Ok slot = sym c.in-ok-slot.ensures in
+    let slot = c.in_ok-slot.slot in
+    let got : withdrawn T t ≡ Ok slot = sym c.in_ok-slot.ensures in
     let kept = withdrawal_kept T tasks held ok c.requires c.args.number t is slot got in
     let whole = withdrawal_outcome T tasks held ok c.requires c.args.number t is slot got in
     let held' = g.L.ReadyList.held c.store.new.list in
     let ok' = g.L.ReadyList.ok c.store.new.list in
     let out = c.store.ensures.tasks in
     record {
-      answer = ap Ok c.departure-of.ensures ∙ sym (ap departing whole);
+      answer = ap Ok c.departure_of.ensures ∙ sym (ap departing whole);
       tasks = out ∙ sym (ap (λ r. with_slot c.args.number r tasks) whole);
       list = c.store.ensures.mirror.same;
       tied = subst (λ ts. Tied T ts held' ok') (sym out)
