@@ -1,6 +1,6 @@
 use Rattle.std.proofs.Common.{◌<◌, length, take, is_some, None, count_by, sym, ap, ◌∙◌, arith}
 use Rattle.controller.proofs.make.count.Goals as goal
-use Rattle.controller.proofs.make.count.Goals.{then-is-some, else-is-some}
+use Rattle.controller.proofs.make.count.Goals.{then-is_some, else-is_some}
 use Rattle.std.proofs.lemmas.List.{length-take, take_all}
 use Rattle.std.proofs.lemmas.List.Sums.{count_by-le-length, count_by_more_no, count_by_more_yes}
 
@@ -17,8 +17,8 @@ loop-slot-preserved c =
     let i = c.loop-slot.slot-index in
     let lt : i < length slots = omega arith in
     elim c.if-is_some.branch [
-      | then-is-some w ↦ omega (arith, w.tasks-is, c.loop-slot.invariant, count_by_more_yes is_some slots i None lt (sym c.is_some.ensures ∙ w.if-is_some.true))
-      | else-is-some w ↦ omega (arith, w.tasks-is, c.loop-slot.invariant, count_by_more_no is_some slots i None lt (sym c.is_some.ensures ∙ w.if-is_some.false))
+      | then-is_some w ↦ omega (arith, w.tasks-is, c.loop-slot.invariant, count_by_more_yes is_some slots i None lt (sym c.is_some.ensures ∙ w.if-is_some.true))
+      | else-is_some w ↦ omega (arith, w.tasks-is, c.loop-slot.invariant, count_by_more_no is_some slots i None lt (sym c.is_some.ensures ∙ w.if-is_some.false))
     ]
 
 pub returns : goal.returns

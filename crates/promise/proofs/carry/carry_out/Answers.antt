@@ -11,7 +11,7 @@ use Rattle.promise.specs.Promised.{Promise}
 
 pub loop-place-preserved : goal.loop-place-preserved
 loop-place-preserved g c =
-    let before = g.Order.TieOrder.before in
+    let before = g.L.Order.TieOrder.before in
     let i = c.loop-place.place in
     let calls = c.args.calls.now in
     let s = state_of c.loop-place.stage c.loop-place.memory.slots in
@@ -26,7 +26,7 @@ loop-place-preserved g c =
 
 pub returns : goal.returns
 returns g c =
-    let before = g.Order.TieOrder.before in
+    let before = g.L.Order.TieOrder.before in
     let i = c.loop-place.place in
     let calls = c.args.calls.now in
     let end : i ≡ min (length calls) (length c.args.answers.now) = omega (arith, c.min-place-end.ensures, c.loop-place.auto.place-end) in
@@ -39,5 +39,5 @@ returns g c =
       state = c.loop-place.invariant.1 ∙ ap (after_all before start) (state_all before calls i (length c.args.answers.now) end);
       list = c.loop-place.invariant.3;
       tied = c.loop-place.invariant.2;
-      promise = subst (Promise before fresh asked) (sym written) (promise_kept before g.met.Order.TieOrder.lawful asked c.args.answers.now);
+      promise = subst (Promise before fresh asked) (sym written) (promise_kept before g.met.L.Order.TieOrder.lawful asked c.args.answers.now);
     }

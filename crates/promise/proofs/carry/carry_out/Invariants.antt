@@ -9,8 +9,8 @@ use Rattle.rules.specs.Tasks.{entry_of}
 -- the answers so far and those to come are the whole, and the stage is where the calls so far have led
 abbrev pub invariant-loop-place : goal.invariant-loop-place
 invariant-loop-place g l =
-    (take l.place l.answers ++ written_over (answers_to g.Order.TieOrder.before (state_of l.stage l.memory.slots) (drop l.place (map asked_by l.calls))) (drop l.place l.answers)
-    ≡ written_over (answers_to g.Order.TieOrder.before start (map asked_by l.calls)) l.initial.answers)
-    × (state_of l.stage l.memory.slots ≡ after_all g.Order.TieOrder.before start (take l.place (map asked_by l.calls)))
-    × TiedAt g.Order.TieOrder.before l.stage l.memory.slots (g.L.ReadyList.held l.list) (g.L.ReadyList.ok l.list)
+    (take l.place l.answers ++ written_over (answers_to g.L.Order.TieOrder.before (state_of l.stage l.memory.slots) (drop l.place (map asked_by l.calls))) (drop l.place l.answers)
+    ≡ written_over (answers_to g.L.Order.TieOrder.before start (map asked_by l.calls)) l.initial.answers)
+    × (state_of l.stage l.memory.slots ≡ after_all g.L.Order.TieOrder.before start (take l.place (map asked_by l.calls)))
+    × TiedAt g.L.Order.TieOrder.before l.stage l.memory.slots (g.L.ReadyList.held l.list) (g.L.ReadyList.ok l.list)
     × (g.L.ReadyList.held l.list ≡ map entry_of l.memory.slots)

@@ -11,7 +11,7 @@ returns-in-Admit g c =
     let tasks = c.args.memory.now.slots in
     record {
       done = call_done rest tasks c.admit-answer.new.memory.slots c.admit-answer.result c.outcome_of.result (admission_to rest.clock tasks c.in-Admit.asked) c.admit-answer.ensures.answer c.admit-answer.ensures.tasks c.outcome_of.ensures
-          ∙ sym (ap (performed g.Order.TieOrder.before rest.clock tasks) c.in-Admit.is);
+          ∙ sym (ap (performed g.L.Order.TieOrder.before rest.clock tasks) c.in-Admit.is);
       tied = c.admit-answer.ensures.tied;
     }
 
@@ -21,6 +21,6 @@ returns-in-Change g c =
     let tasks = c.args.memory.now.slots in
     record {
       done = call_done rest tasks c.change-answer.new.memory.slots c.change-answer.result c.outcome_of-in-Change.result (change_at rest.clock tasks c.in-Change.number c.in-Change.change) c.change-answer.ensures.answer c.change-answer.ensures.tasks c.outcome_of-in-Change.ensures
-          ∙ sym (ap (performed g.Order.TieOrder.before rest.clock tasks) c.in-Change.is);
+          ∙ sym (ap (performed g.L.Order.TieOrder.before rest.clock tasks) c.in-Change.is);
       tied = c.change-answer.ensures.tied;
     }

@@ -8,8 +8,8 @@ use Rattle.sheet.specs.Readings.{reading_from}
 -- what is written and what is still to come are the whole
 abbrev pub invariant-loop-found : goal.invariant-loop-found
 invariant-loop-found g l =
-    (string_bytes l.out ++ lines_of g.Order.TieOrder.before l.rest.clock l.memory.slots (reading_from step_at l.input l.place)
-    ≡ string_bytes l.initial.out ++ lines_of g.Order.TieOrder.before l.initial.rest.clock l.initial.memory.slots (reading_from step_at l.input l.initial.place))
+    (string_bytes l.out ++ lines_of g.L.Order.TieOrder.before l.rest.clock l.memory.slots (reading_from step_at l.input l.place)
+    ≡ string_bytes l.initial.out ++ lines_of g.L.Order.TieOrder.before l.initial.rest.clock l.initial.memory.slots (reading_from step_at l.input l.initial.place))
     × Tied l.rest.clock l.memory.slots (g.L.ReadyList.held l.list) (g.L.ReadyList.ok l.list)
 
 abbrev pub decreases-loop-found : goal.decreases-loop-found

@@ -12,14 +12,14 @@ pub overflow_add-clock : goal.overflow_add-clock
 overflow_add-clock g c =
     omega (
       arith,
-      settles_in_time g.Order.TieOrder.before g.met.Order.TieOrder.lawful c.args.self.turn c.args.memory.now.slots (g.L.ReadyList.held c.args.list.now) (g.L.ReadyList.ok c.args.list.now) c.requires
+      settles_in_time g.L.Order.TieOrder.before g.met.L.Order.TieOrder.lawful c.args.self.turn c.args.memory.now.slots (g.L.ReadyList.held c.args.list.now) (g.L.ReadyList.ok c.args.list.now) c.requires
           (g.met.L.ReadyList.slotted c.args.list.now c.requires.rest.memory) c.args.count c.if-count-self.false,
     )
 
 pub charge_runner-requires : goal.charge_runner-requires
 charge_runner-requires g c =
     record {
-      runner = runner g.Order.TieOrder.before g.met.Order.TieOrder.lawful c.args.self.turn c.args.memory.now.slots (g.L.ReadyList.held c.args.list.now) (g.L.ReadyList.ok c.args.list.now) c.requires
+      runner = runner g.L.Order.TieOrder.before g.met.L.Order.TieOrder.lawful c.args.self.turn c.args.memory.now.slots (g.L.ReadyList.held c.args.list.now) (g.L.ReadyList.ok c.args.list.now) c.requires
           (g.met.L.ReadyList.slotted c.args.list.now c.requires.rest.memory) c.args.count c.if-count-self.false;
       mirror = c.requires.rest.mirror;
       memory = c.requires.rest.memory;
@@ -28,7 +28,7 @@ charge_runner-requires g c =
 pub release_due-requires : goal.release_due-requires
 release_due-requires g c =
     record {
-      in_time = settles_in_time g.Order.TieOrder.before g.met.Order.TieOrder.lawful c.args.self.turn c.args.memory.now.slots (g.L.ReadyList.held c.args.list.now) (g.L.ReadyList.ok c.args.list.now) c.requires
+      in_time = settles_in_time g.L.Order.TieOrder.before g.met.L.Order.TieOrder.lawful c.args.self.turn c.args.memory.now.slots (g.L.ReadyList.held c.args.list.now) (g.L.ReadyList.ok c.args.list.now) c.requires
           (g.met.L.ReadyList.slotted c.args.list.now c.requires.rest.memory) c.args.count c.if-count-self.false;
       mirror = c.charge_runner.ensures.mirror;
       memory = c.charge_runner.ensures.memory;
@@ -49,6 +49,6 @@ returns g c =
       tasks = done ∙ sym (cond-false (ltb turn.length n) tasks (map (due_at (turn.start + n)) (charged_in turn.runs n tasks)) within);
       list = c.release_due.ensures.mirror.same;
       tied = subst (λ ts. Tied (turn.start + n) ts held ok) (sym done)
-          (settled_tied g.Order.TieOrder.before g.met.Order.TieOrder.lawful turn tasks (g.L.ReadyList.held c.args.list.now) (g.L.ReadyList.ok c.args.list.now) c.requires
+          (settled_tied g.L.Order.TieOrder.before g.met.L.Order.TieOrder.lawful turn tasks (g.L.ReadyList.held c.args.list.now) (g.L.ReadyList.ok c.args.list.now) c.requires
           (g.met.L.ReadyList.slotted c.args.list.now c.requires.rest.memory) n c.if-count-self.false held ok (subst (λ ts. Mirrors ts held) done c.release_due.ensures.mirror) c.release_due.ensures.memory);
     }
