@@ -23,16 +23,17 @@ pub fn write_line(out: &mut String, clock: u64, code: u8, outcome: Outcome) -> f
     ensures { OnOk result (string_bytes out.new ≡ string_bytes out.old ++ line_of clock code outcome) }
 {
     match outcome {
-        Outcome::Accepted(tasks) => write!(out, "{clock} {code} ok {tasks}\n"),
+        Outcome::Accepted(tasks) => write!(out, "{clock} {code} ok {tasks}\n")?,
         Outcome::Faulty(fault) => {
             let Told {
                 number,
                 layer,
                 place,
             } = fault;
-            write!(out, "{clock} {code} no {number} {layer} {place}\n")
+            write!(out, "{clock} {code} no {number} {layer} {place}\n")?;
         }
-        Outcome::Ran(number) => write!(out, "{clock} {code} run {number}\n"),
-        Outcome::Refused(number) => write!(out, "{clock} {code} no {number}\n"),
+        Outcome::Ran(number) => write!(out, "{clock} {code} run {number}\n")?,
+        Outcome::Refused(number) => write!(out, "{clock} {code} no {number}\n")?,
     }
+    Ok(())
 }
