@@ -5,7 +5,7 @@ use Rattle.controller.proofs.Changing.{changed_kept, same_place, there}
 use Rattle.controller.specs.Admitting.{admission_to, is_taken, with_task}
 use Rattle.controller.specs.Changing.{change_at, on_task, task_at}
 use Rattle.controller.specs.Settling.{charged_in, settled_tasks}
-use Rattle.controller.specs.Tasks.{Tasks, no_tasks, rates}
+use Rattle.controller.specs.Tasks.{Tasks, rates}
 use Rattle.controller.specs.Tied.{Open, Tied}
 use Rattle.controller.specs.declared.states.Runs.{Runs}
 use Rattle.controller.specs.declared.states.Runs.TheVariants.{Idle, Task as runs-task}

@@ -1,5 +1,5 @@
 -- Why no deadline is missed: what the tasks are owed above their rates never exceeds what others have had before theirs.
-use Rattle.std.specs.Prelude.{ℕ, ◌+◌, ◌-◌, ◌*◌, ◌≤◌, min, Bool, cond, Some, None, sum_by, Option, nat_le, nat_lt}
+use Rattle.std.specs.Prelude.{ℕ, ◌+◌, ◌-◌, ◌*◌, ◌≤◌, min, cond, Some, None, sum_by, Option, nat_le, nat_lt}
 use Rattle.controller.specs.Tasks.{Tasks}
 use Rattle.rules.specs.Changes.{share}
 use Rattle.rules.specs.Tasks.{is_ready}

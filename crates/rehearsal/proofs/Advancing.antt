@@ -1,5 +1,5 @@
 -- Call records may be read one after another: each ends behind its code byte, within the input.
-use Rattle.std.proofs.Common.{◌≡◌, ℕ, ◌+◌, ◌-◌, ◌<◌, ◌≤◌, cond, eqb, List, [], ◌∷◌, length, drop, IfOk, Some, None, Ok, Err, Option, Result, sym, refl, ⊎_elim, arith, length-drop}
+use Rattle.std.proofs.Common.{◌≡◌, ℕ, ◌+◌, ◌<◌, ◌≤◌, eqb, List, [], ◌∷◌, length, drop, IfOk, Some, None, Ok, Err, Option, Result, sym, ⊎_elim, arith, length-drop}
 use Rattle.rehearsal.specs.Scripts.{admit_in, argument_in, blamed, call_in, event_in, one_in, setting_in, step_at, turn_in, two_in}
 use Rattle.rehearsal.specs.declared.scripts.BadStep.{BadStep}
 use Rattle.rehearsal.specs.declared.scripts.Step.{Step}
@@ -8,7 +8,6 @@ use Rattle.sheet.proofs.Ends.{Onward, field_onward, then}
 use Rattle.sheet.proofs.Readings.{Advances}
 use Rattle.sheet.specs.Readings.{Left, opened, part_at}
 use Rattle.sheet.specs.Records.{field_in}
-use Rattle.sheet.specs.declared.records.Field.{Field}
 use Rattle.sheet.specs.declared.records.RecordFault.{RecordFault}
 use Rattle.std.proofs.lemmas.Result.{IfOk-at_ok}
 use Rattle.std.proofs.lemmas.Bool.{cases_lt, cond_both}

@@ -1,5 +1,5 @@
 -- The lines of a rehearsal, written call by call.
-use Rattle.std.proofs.Common.{◌≡◌, ℕ, Bool, true, false, List, [], ◌++◌, is_some, is_err, IfOk, Some, None, Ok, Err, count_by, Result, sym, refl, ap, ◌∙◌, append_assoc, append-nil, arith}
+use Rattle.std.proofs.Common.{◌≡◌, ℕ, Bool, false, List, ◌++◌, is_some, is_err, IfOk, Some, None, Ok, Err, count_by, Result, sym, refl, ap, ◌∙◌, append_assoc, append-nil, arith}
 use Rattle.controller.specs.Admitting.{accepted, with_task}
 use Rattle.controller.specs.Making.{made_tasks, make_answer}
 use Rattle.controller.specs.Tasks.{Tasks}
@@ -10,7 +10,7 @@ use Rattle.rehearsal.proofs.Advancing.{advances}
 use Rattle.rehearsal.specs.Lines.{line_of}
 use Rattle.rehearsal.specs.Rehearsals.{and_on, code_of, lines_of, performed, played, said_of, settled_as}
 use Rattle.rehearsal.specs.Scripts.{step_at}
-use Rattle.rehearsal.specs.Turns.{Done, done_by}
+use Rattle.rehearsal.specs.Turns.{done_by}
 use Rattle.rehearsal.specs.declared.lines.Outcome.{Outcome}
 use Rattle.rehearsal.specs.declared.lines.Outcome.TheVariants.{Accepted, Refused}
 use Rattle.rehearsal.specs.declared.scripts.BadStep.{BadStep}

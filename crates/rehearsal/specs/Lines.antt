@@ -1,5 +1,5 @@
 -- The bytes of a line: the clock after the call, its code byte, a word and its values, in decimal with single spaces.
-use Rattle.std.specs.Prelude.{ℕ, List, [], ◌∷◌, ◌++◌, codes, decimal}
+use Rattle.std.specs.Prelude.{ℕ, List, ◌++◌, codes, decimal}
 use Rattle.rehearsal.specs.declared.lines.Outcome.{Outcome}
 use Rattle.rehearsal.specs.declared.lines.Outcome.TheVariants.{Accepted, Faulty, Ran, Refused}
 

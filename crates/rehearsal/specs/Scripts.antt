@@ -5,7 +5,7 @@ use Rattle.rehearsal.specs.declared.scripts.Step.{Step}
 use Rattle.rehearsal.specs.declared.scripts.Step.TheVariants.{Admit, Turn, Change as StepChange}
 use Rattle.rules.specs.declared.changes.Change.{Change}
 use Rattle.rules.specs.declared.changes.Change.TheVariants.{Finish, Period, Rate, Wait, Wake}
-use Rattle.sheet.specs.Readings.{Left, Reader, Reading, and_then, part_at, reading_from}
+use Rattle.sheet.specs.Readings.{Left, Reader, Reading, and_then, part_at}
 use Rattle.sheet.specs.Records.{field_in, told}
 use Rattle.sheet.specs.Values.{left_of}
 use Rattle.sheet.specs.declared.records.Field.{Field}

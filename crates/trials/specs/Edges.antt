@@ -2,7 +2,6 @@
 -- some calls from the clock 0, then makes one call on task 1, and says what its line says and how many ticks task 1 then has left.
 use Rattle.std.specs.Prelude.{◌≡◌, ℕ, List, [], ◌∷◌, None, slice_index_or}
 use Rattle.controller.specs.Making.{made, made_tasks}
-use Rattle.controller.specs.Tasks.{Tasks}
 use Rattle.order.specs.Orders.{by_number}
 use Rattle.rehearsal.specs.Rehearsals.{performed}
 use Rattle.rehearsal.specs.Turns.{Done}

@@ -1,4 +1,4 @@
-use Rattle.std.proofs.Common.{◌≡◌, sym, ap, ◌∙◌}
+use Rattle.std.proofs.Common.{sym, ap, ◌∙◌}
 use Rattle.controller.specs.Admitting.{admission_to}
 use Rattle.controller.specs.Changing.{change_at}
 use Rattle.rehearsal.proofs.Playing.{call_done}

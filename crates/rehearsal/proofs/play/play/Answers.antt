@@ -1,9 +1,8 @@
-use Rattle.std.proofs.Common.{◌≡◌, ◌++◌, Some, None, Ok, string_bytes, sym, ap, ◌∙◌, subst, arith}
+use Rattle.std.proofs.Common.{◌++◌, Ok, string_bytes, sym, ap, ◌∙◌, arith}
 use Rattle.rehearsal.proofs.Advancing.{advances}
 use Rattle.rehearsal.proofs.Playing.{made_fine, play_bad, play_end, play_step}
 use Rattle.rehearsal.proofs.play.play.Goals as goal
 use Rattle.rehearsal.specs.Lines.{line_of}
-use Rattle.rehearsal.specs.Scripts.{step_at}
 use Rattle.rehearsal.specs.declared.lines.Outcome.TheVariants.{Refused}
 use Rattle.std.proofs.lemmas.Result.{IfOk-weaker}
 

@@ -1,4 +1,4 @@
-use Rattle.std.proofs.Common.{◌≡◌, ◌-◌, ◌*◌, ◌/◌, ◌≤◌, ap, mul-le-mul_right, arith}
+use Rattle.std.proofs.Common.{◌-◌, ◌*◌, ◌/◌, ◌≤◌, ap, mul-le-mul_right, arith}
 use Rattle.rules.proofs.changes.raised_by.Goals as goal
 
 pub returns : goal.returns
