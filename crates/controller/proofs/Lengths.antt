@@ -14,15 +14,15 @@ use Rattle.rules.specs.Tasks.{entry_of, is_ready, wants_to_run}
 use Rattle.rules.specs.declared.tasks.Task.{Task}
 use Rattle.std.proofs.lemmas.List.{get_or-map}
 use Rattle.std.proofs.lemmas.Bool.{and_parts, cases_Bool, cond-false, ltb-true}
-use Rattle.std.specs.List.{AllByRecursion as All}
+use Rattle.std.specs.List.{AllByRecursion}
 
 -- the nearest deadline of sound tasks lies after the clock
-nearest_from : (T : ℕ) (bound : ℕ) (tasks : Tasks) → T < bound → All (SoundSlot T) tasks → T < fold sooner bound tasks
+nearest_from : (T : ℕ) (bound : ℕ) (tasks : Tasks) → T < bound → AllByRecursion (SoundSlot T) tasks → T < fold sooner bound tasks
 nearest_from T bound [] lt all = lt
 nearest_from T bound (None ∷ tasks) lt all = nearest_from T bound tasks lt all.1
 nearest_from T bound (Some t ∷ tasks) lt all = nearest_from T (min bound t.deadline) tasks (let h : T < t.deadline = all.0.coming in omega arith) all.1
 
-pub nearest_after : (T : ℕ) (tasks : Tasks) → T < 2 ^ 40 → All (SoundSlot T) tasks → T < nearest tasks
+pub nearest_after : (T : ℕ) (tasks : Tasks) → T < 2 ^ 40 → AllByRecursion (SoundSlot T) tasks → T < nearest tasks
 nearest_after T tasks lt all = nearest_from T (2 ^ 40) tasks lt all
 
 -- the first entry's number is that of a slot
@@ -41,7 +41,7 @@ entry_left (Some t) e is =
     (cases_Bool (wants_to_run t))
 
 -- so no turn is of length 0
-pub length_some : (before : Entry → Entry → Bool) (T : ℕ) (tasks : Tasks) (held : Held) (first : Option Entry) → T < 2 ^ 40 → All (SoundSlot T) tasks → Mirrors tasks held → Least before held first
+pub length_some : (before : Entry → Entry → Bool) (T : ℕ) (tasks : Tasks) (held : Held) (first : Option Entry) → T < 2 ^ 40 → AllByRecursion (SoundSlot T) tasks → Mirrors tasks held → Least before held first
     → 0 < length_of T tasks first
 length_some before T tasks held None lt sound mirror least = omega (arith, nearest_after T tasks lt sound)
 length_some before T tasks held (Some e) lt sound mirror least =

@@ -26,7 +26,7 @@ use Rattle.std.proofs.lemmas.List.{set-get_or}
 use Rattle.std.proofs.lemmas.List.Sums.{sum_by-cons, sum_by-set}
 use Rattle.std.proofs.lemmas.Bool.{cases_Bool, cond_both, cond-false, cond-true, le-ltb, ne_eqb}
 use Rattle.rules.specs.declared.refusals.Refusal.TheVariants.{CountTooHigh}
-use Rattle.std.specs.List.{AllByRecursion as All}
+use Rattle.std.specs.List.{AllByRecursion}
 
 abbrev pub PassedSlot : ℕ → Option Task → Type 0
 PassedSlot T None = Unit {0}
@@ -39,7 +39,7 @@ nearest_le bound (None ∷ tasks) = nearest_le bound tasks
 nearest_le bound (Some t ∷ tasks) = omega (arith, nearest_le (min bound t.deadline) tasks)
 
 -- time passes up to the nearest deadline
-pub pass_all : (T c bound : ℕ) (tasks : Tasks) → T + c ≤ fold sooner bound tasks → All (SoundSlot T) tasks → All (PassedSlot (T + c)) tasks
+pub pass_all : (T c bound : ℕ) (tasks : Tasks) → T + c ≤ fold sooner bound tasks → AllByRecursion (SoundSlot T) tasks → AllByRecursion (PassedSlot (T + c)) tasks
 pass_all T c bound [] le all = tt
 pass_all T c bound (None ∷ tasks) le all = (tt, pass_all T c bound tasks le all.1)
 pass_all T c bound (Some t ∷ tasks) le all =
@@ -50,7 +50,7 @@ pub due_slot : (T : ℕ) (slot : Option Task) → PassedSlot T slot → SoundSlo
 due_slot T None p = tt
 due_slot T (Some t) p = due_sound T t p
 
-due_all : (T : ℕ) (tasks : Tasks) → All (PassedSlot T) tasks → All (SoundSlot T) (map (due_at T) tasks)
+due_all : (T : ℕ) (tasks : Tasks) → AllByRecursion (PassedSlot T) tasks → AllByRecursion (SoundSlot T) (map (due_at T) tasks)
 due_all T tasks all = All-map (SoundSlot T) (due_at T) tasks (All-weaker (PassedSlot T) (λ x. SoundSlot T (due_at T x)) (due_slot T) tasks all)
 
 -- the turn's task passes too when it is charged
@@ -58,7 +58,7 @@ charge_slot : (T c : ℕ) (slot : Option Task) → Chargeable c slot → PassedS
 charge_slot T c None able p = tt
 charge_slot T c (Some t) able p = charged_passed T c t _ refl able.0 p
 
-pub charge_all : (T c : ℕ) (runs : Runs) (tasks : Tasks) → length tasks ≡ 64 → Runner runs c tasks → All (PassedSlot T) tasks → All (PassedSlot T) (charged_in runs c tasks)
+pub charge_all : (T c : ℕ) (runs : Runs) (tasks : Tasks) → length tasks ≡ 64 → Runner runs c tasks → AllByRecursion (PassedSlot T) tasks → AllByRecursion (PassedSlot T) (charged_in runs c tasks)
 charge_all T c Idle tasks many runner all = all
 charge_all T c (runs-task number deadline) tasks many runner all =
     let slot = get_or tasks (number - 1) None in
@@ -92,7 +92,7 @@ chargeable : (T c : ℕ) (slot : Option Task) → SoundSlot T slot → T ≤ 2 ^
 chargeable T c None s le few = tt
 chargeable T c (Some t) s le few = (few, omega (arith, few_ticks T t s, s.period_high))
 
-runner_first : (before : Entry → Entry → Bool) (T c : ℕ) (tasks : Tasks) (held : Held) (first : Option Entry) → T ≤ 2 ^ 40 → All (SoundSlot T) tasks → Mirrors tasks held → Least before held first
+runner_first : (before : Entry → Entry → Bool) (T c : ℕ) (tasks : Tasks) (held : Held) (first : Option Entry) → T ≤ 2 ^ 40 → AllByRecursion (SoundSlot T) tasks → Mirrors tasks held → Least before held first
     → c ≤ length_of T tasks first → Runner (runs_of first) c tasks
 runner_first before T c tasks held None le sound mirror least few = tt
 runner_first before T c tasks held (Some e) le sound mirror least few =
@@ -164,11 +164,11 @@ not_due : (T : ℕ) (slot : Option Task) → SoundSlot T slot → due_at T slot 
 not_due T None s = refl
 not_due T (Some t) s = cond-false (eqb t.deadline T) (after_deadline t) (Some t) (ne_eqb t.deadline T (λ e. omega (arith, s.coming)))
 
-none_due : (T : ℕ) (tasks : Tasks) → All (SoundSlot T) tasks → map (due_at T) tasks ≡ tasks
+none_due : (T : ℕ) (tasks : Tasks) → AllByRecursion (SoundSlot T) tasks → map (due_at T) tasks ≡ tasks
 none_due T [] all = refl
 none_due T (x ∷ tasks) all = let head : due_at T x ≡ x = not_due T x all.0 in let rest : map (due_at T) tasks ≡ tasks = none_due T tasks all.1 in cc
 
-pub settled_none : (turn : Turn) (tasks : Tasks) → All (SoundSlot turn.start) tasks → settled_tasks turn 0 tasks ≡ tasks
+pub settled_none : (turn : Turn) (tasks : Tasks) → AllByRecursion (SoundSlot turn.start) tasks → settled_tasks turn 0 tasks ≡ tasks
 settled_none turn tasks sound =
     let T = turn.start in
     let same : T + 0 ≡ T = omega arith in

@@ -9,13 +9,13 @@ use Rattle.order.specs.declared.entries.Entry.{Entry}
 use Rattle.ready.specs.Held.{Held, first_of}
 use Rattle.rules.specs.Sound.{SoundSlot}
 use Rattle.rules.specs.declared.refusals.Refusal.{Refusal}
-use Rattle.std.specs.List.{AllByRecursion as All}
+use Rattle.std.specs.List.{AllByRecursion}
 
 -- a resting controller with the clock T over its tasks and its list; `ok` says that the list's own memory is in order
 pub record Tied (T : ℕ) (tasks : Tasks) (held : Held) (ok : Type 0) : Type 0 where
   pub in_time : T ≤ 2 ^ 40
   pub mirror : Mirrors tasks held
-  pub sound : All (SoundSlot T) tasks
+  pub sound : AllByRecursion (SoundSlot T) tasks
   pub shared : rates tasks ≤ 1000
   pub memory : ok
 

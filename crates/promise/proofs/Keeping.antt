@@ -46,7 +46,7 @@ use Rattle.rules.specs.declared.tasks.Task.{Task}
 use Rattle.std.proofs.ByRecursion.{All-from_get_or, All-get_or, All-map, All-set, All-weaker}
 use Rattle.std.proofs.lemmas.List.{get_or-map, map-set}
 use Rattle.std.proofs.lemmas.Bool.{cond-false, eqb-false, le-ltb, ltb-false}
-use Rattle.std.specs.List.{AllByRecursion as All}
+use Rattle.std.specs.List.{AllByRecursion}
 
 -- an open turn is the one that the tasks ask for
 abbrev OpenIn : (Entry → Entry → Bool) → ℕ → Tasks → Option Turn → Type 0
@@ -56,7 +56,7 @@ OpenIn before T tasks (Some turn) = (turn.start ≡ T) × Open before turn tasks
 -- what holds between two calls
 record Standing (before : Entry → Entry → Bool) (a : Account) : Type 0 where
   good : Good a.clock (state_in a).tasks
-  even : All (EvenSlot a.clock) a.ledgers
+  even : AllByRecursion (EvenSlot a.clock) a.ledgers
   open' : OpenIn before a.clock (state_in a).tasks a.turn
 
 -- a call that is answered r and leads to the state s
@@ -65,7 +65,7 @@ record Step (before : Entry → Entry → Bool) (a : Account) (asked : Asked) (r
   paid : PaidBy r a
   goes : state_in (moved asked r a) ≡ s
   good : Good s.clock s.tasks
-  even : All (EvenSlot (moved asked r a).clock) (moved asked r a).ledgers
+  even : AllByRecursion (EvenSlot (moved asked r a).clock) (moved asked r a).ledgers
   open' : OpenIn before s.clock s.tasks s.turn
 
 goes_on : (before : Entry → Entry → Bool) (a : Account) (asked : Asked) (r : Answer) (s : State) → Step before a asked r s → Standing before (moved asked r a)
@@ -76,7 +76,7 @@ goes_on before a asked r s step =
       open' = subst (λ x. OpenIn before x.clock x.tasks x.turn) (sym step.goes) step.open';
     }
 
-none_even : (T n : ℕ) → All (EvenSlot T) (replicate n None)
+none_even : (T n : ℕ) → AllByRecursion (EvenSlot T) (replicate n None)
 none_even T zero = tt
 none_even T (suc n) = (tt, none_even T n)
 
@@ -98,7 +98,7 @@ abbrev seen : Ledgers → Tasks
 seen ledgers = map (in_slot view) ledgers
 
 -- calls at rest
-module _ (before : Entry → Entry → Bool) (laws : Lawful before) (T : ℕ) (ledgers : Ledgers) (good : Good T (seen ledgers)) (even : All (EvenSlot T) ledgers) where
+module _ (before : Entry → Entry → Bool) (laws : Lawful before) (T : ℕ) (ledgers : Ledgers) (good : Good T (seen ledgers)) (even : AllByRecursion (EvenSlot T) ledgers) where
   abbrev at_rest_in : Account
   at_rest_in = record { clock = T; ledgers = ledgers; turn = None }
 
@@ -110,7 +110,7 @@ module _ (before : Entry → Entry → Bool) (laws : Lawful before) (T : ℕ) (l
         paid = paid;
         goes = ap state_in same;
         good = good;
-        even = subst (λ a. All (EvenSlot a.clock) a.ledgers) (sym same) even;
+        even = subst (λ a. AllByRecursion (EvenSlot a.clock) a.ledgers) (sym same) even;
         open' = tt;
       }
 
@@ -238,7 +238,7 @@ module _ (before : Entry → Entry → Bool) (laws : Lawful before) (T : ℕ) (l
   rest_step (settle count) = unmoved (settle count) OutOfPlace tt tt refl
 
 -- time passes for all ledgers
-passing_even : (T c : ℕ) (ledgers : Ledgers) → All (EvenSlot T) ledgers → All (PassedSlot (T + c)) (seen ledgers) → All (EvenSlot (T + c)) (map (in_slot (passing c)) ledgers)
+passing_even : (T c : ℕ) (ledgers : Ledgers) → AllByRecursion (EvenSlot T) ledgers → AllByRecursion (PassedSlot (T + c)) (seen ledgers) → AllByRecursion (EvenSlot (T + c)) (map (in_slot (passing c)) ledgers)
 passing_even T c [] even passed = tt
 passing_even T c (None ∷ ledgers) even passed = (tt, passing_even T c ledgers even.1 passed.1)
 passing_even T c (Some a ∷ ledgers) even passed = (even_passing T c a passed.0.coming even.0, passing_even T c ledgers even.1 passed.1)
@@ -247,7 +247,7 @@ served_even : (T c : ℕ) (x : Option Ledger) → Chargeable c (in_slot view x) 
 served_even T c None able e = tt
 served_even T c (Some a) able e = even_served T c a able.0 e
 
-given_even : (T c : ℕ) (runs : Runs) (ledgers : Ledgers) → length ledgers ≡ 64 → RunsIn runs c (seen ledgers) → All (EvenSlot T) ledgers → All (EvenSlot T) (given_in runs c ledgers)
+given_even : (T c : ℕ) (runs : Runs) (ledgers : Ledgers) → length ledgers ≡ 64 → RunsIn runs c (seen ledgers) → AllByRecursion (EvenSlot T) ledgers → AllByRecursion (EvenSlot T) (given_in runs c ledgers)
 given_even T c Idle ledgers many r even = even
 given_even T c (runs-task number deadline) ledgers many r even =
     let i = number - 1 in
@@ -261,7 +261,7 @@ in_ledgers c Idle ledgers tasks many r = tt
 in_ledgers c (runs-task number deadline) ledgers tasks many r = omega (arith, r.0, r.1)
 
 -- what is known of each ledger when the clock has come to T
-all_coming : (T : ℕ) (ledgers : Ledgers) → All (EvenSlot T) ledgers → All (PassedSlot T) (seen ledgers) → Feasible T (seen ledgers) → All (ComingSlot T) ledgers
+all_coming : (T : ℕ) (ledgers : Ledgers) → AllByRecursion (EvenSlot T) ledgers → AllByRecursion (PassedSlot T) (seen ledgers) → Feasible T (seen ledgers) → AllByRecursion (ComingSlot T) ledgers
 all_coming T ledgers even passed feasible = All-from_get_or (ComingSlot T) ledgers None (λ i lt. one i lt (get_or ledgers i None) refl)
   where
     one : (i : ℕ) → i < length ledgers → (x : Option Ledger) → get_or ledgers i None ≡ x → ComingSlot T x
@@ -276,7 +276,7 @@ all_coming T ledgers even passed feasible = All-from_get_or (ComingSlot T) ledge
         }
 
 -- calls in an open turn
-module _ (before : Entry → Entry → Bool) (laws : Lawful before) (turn : Turn) (ledgers : Ledgers) (good : Good turn.start (seen ledgers)) (even : All (EvenSlot turn.start) ledgers)
+module _ (before : Entry → Entry → Bool) (laws : Lawful before) (turn : Turn) (ledgers : Ledgers) (good : Good turn.start (seen ledgers)) (even : AllByRecursion (EvenSlot turn.start) ledgers)
     (opened' : Open before turn (seen ledgers) (map entry_of (seen ledgers)) (Unit {0})) where
   abbrev in_turn_in : Account
   in_turn_in = record { clock = turn.start; ledgers = ledgers; turn = Some turn }
@@ -288,7 +288,7 @@ module _ (before : Entry → Entry → Bool) (laws : Lawful before) (turn : Turn
         paid = paid;
         goes = ap state_in same;
         good = good;
-        even = subst (λ a. All (EvenSlot a.clock) a.ledgers) (sym same) even;
+        even = subst (λ a. AllByRecursion (EvenSlot a.clock) a.ledgers) (sym same) even;
         open' = (refl, opened');
       }
 
@@ -306,7 +306,7 @@ module _ (before : Entry → Entry → Bool) (laws : Lawful before) (turn : Turn
     runs' : RunsIn turn.runs c (seen ledgers)
     runs' = runner before laws turn (seen ledgers) (map entry_of (seen ledgers)) (Unit {0}) opened' (mirror_slotted (seen ledgers) opened'.rest.mirror) c few
 
-    passed : All (PassedSlot T) (seen ledgers)
+    passed : AllByRecursion (PassedSlot T) (seen ledgers)
     passed =
         pass_all turn.start c (2 ^ 40) (seen ledgers) (in_room before laws turn (seen ledgers) (map entry_of (seen ledgers)) (Unit {0}) opened' (mirror_slotted (seen ledgers) opened'.rest.mirror) c few) opened'.rest.sound
 
@@ -314,11 +314,11 @@ module _ (before : Entry → Entry → Bool) (laws : Lawful before) (turn : Turn
     seen_ticked =
         view-given turn.runs c (map (in_slot (passing c)) ledgers) (in_ledgers c turn.runs (map (in_slot (passing c)) ledgers) (seen ledgers) many runs') ∙ ap (charged_in turn.runs c) (view-passing c ledgers)
 
-    coming : All (ComingSlot T) ticked
+    coming : AllByRecursion (ComingSlot T) ticked
     coming =
         all_coming T ticked
         (given_even T c turn.runs (map (in_slot (passing c)) ledgers) many (subst (RunsIn turn.runs c) (sym (view-passing c ledgers)) runs') (passing_even turn.start c ledgers even passed))
-        (subst (All (PassedSlot T)) (sym seen_ticked) (charge_all T c turn.runs (seen ledgers) opened'.rest.mirror.many runs' passed))
+        (subst (AllByRecursion (PassedSlot T)) (sym seen_ticked) (charge_all T c turn.runs (seen ledgers) opened'.rest.mirror.many runs' passed))
         (subst (Feasible T) (sym seen_ticked) (charged_feasible before laws turn (seen ledgers) (map entry_of (seen ledgers)) (mirror_slotted (seen ledgers) opened'.rest.mirror) opened' c few good.feasible))
 
     -- the count is what the clock has moved by
@@ -332,12 +332,12 @@ module _ (before : Entry → Entry → Bool) (laws : Lawful before) (turn : Turn
     settled_step =
         record {
           turn = tt;
-          paid = subst (λ n. All (PaidAt T) (Read n)) moved_by (All-map (PaidAt T) (in_slot (due T)) ticked (All-weaker (ComingSlot T) (λ x. PaidAt T (in_slot (due T) x)) (paid_due T) ticked coming));
+          paid = subst (λ n. AllByRecursion (PaidAt T) (Read n)) moved_by (All-map (PaidAt T) (in_slot (due T)) ticked (All-weaker (ComingSlot T) (λ x. PaidAt T (in_slot (due T) x)) (paid_due T) ticked coming));
           goes = subst (λ n. at_rest T (seen (map (follows T) (Read n))) ≡ at_rest T (settled_tasks turn c (seen ledgers))) moved_by
               (ap (at_rest T) (view-due T ticked
               ∙ (ap (map (due_at T)) seen_ticked ∙ sym (cond-false (ltb turn.length c) (seen ledgers) (map (due_at T) (charged_in turn.runs c (seen ledgers))) (le-ltb turn.length c few)))));
           good = good_settled before laws turn (seen ledgers) opened' good.feasible c few;
-          even = subst (λ n. All (EvenSlot T) (map (follows T) (Read n))) moved_by
+          even = subst (λ n. AllByRecursion (EvenSlot T) (map (follows T) (Read n))) moved_by
               (All-map (EvenSlot T) (follows T) (Read c) (All-map (λ y. EvenSlot T (follows T y)) (in_slot (due T)) ticked (All-weaker (ComingSlot T) (λ x. EvenSlot T (follows T (in_slot (due T) x))) (even_due T) ticked coming)));
           open' = tt;
         }
@@ -360,7 +360,7 @@ module _ (before : Entry → Entry → Bool) (laws : Lawful before) where
       → Step before (record { clock = T; ledgers = ledgers; turn = turn }) asked (answer_to before (state_in (record { clock = T; ledgers = ledgers; turn = turn })) asked) (after before (state_in (record { clock = T; ledgers = ledgers; turn = turn })) asked)
   any_step T ledgers None st asked = rest_step before laws T ledgers st.good st.even asked
   any_step T ledgers (Some turn) st asked =
-      let P : ℕ → Type 0 = λ n. Good n (seen ledgers) → All (EvenSlot n) ledgers → Step before (record { clock = n; ledgers = ledgers; turn = Some turn }) asked (turn_answer turn asked) (turn_next turn (seen ledgers) asked) in
+      let P : ℕ → Type 0 = λ n. Good n (seen ledgers) → AllByRecursion (EvenSlot n) ledgers → Step before (record { clock = n; ledgers = ledgers; turn = Some turn }) asked (turn_answer turn asked) (turn_next turn (seen ledgers) asked) in
       subst P st.open'.0 (λ good even. turn_step before laws turn ledgers good even st.open'.1 asked) st.good st.even
 
   -- the promise for every list of calls, from any account that stands

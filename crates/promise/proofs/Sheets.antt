@@ -16,7 +16,7 @@ use Rattle.sheet.specs.Readings.{and_then, broken, done, entry}
 use Rattle.sheet.specs.Records.{TaskValue, note, task}
 use Rattle.sheet.specs.Sheets.{Sheet, sheet_of}
 use Rattle.std.proofs.ByRecursion.{All-set}
-use Rattle.std.specs.List.{AllByRecursion as All}
+use Rattle.std.specs.List.{AllByRecursion}
 
 -- a task whose first job was released at T
 pub record Fresh (T : ℕ) (t : Task) : Type 0 where
@@ -34,7 +34,7 @@ admitted_fresh T asked = record { ran = refl; left = refl; deadline = refl; phas
 
 pub record Enrolled (tasks : Tasks) : Type 0 where
   pub good : Good 0 tasks
-  pub fresh : All (FreshSlot 0) tasks
+  pub fresh : AllByRecursion (FreshSlot 0) tasks
 
 abbrev EnrolledOr : Result Tasks SheetFault → Type 0
 EnrolledOr (Ok tasks) = Enrolled tasks
@@ -58,7 +58,7 @@ all_more tasks (broken fault) b = tt
 all_more tasks (entry (note text) rest) b = all_more tasks rest b
 all_more tasks (entry (task asked) rest) b = one_more tasks asked rest b (λ next n. all_more next rest n) (admission_to 0 tasks (reservation asked)) refl
 
-none_fresh : (n : ℕ) → All (FreshSlot 0) (replicate n None)
+none_fresh : (n : ℕ) → AllByRecursion (FreshSlot 0) (replicate n None)
 none_fresh zero = tt
 none_fresh (suc n) = (tt, none_fresh n)
 

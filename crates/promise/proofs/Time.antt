@@ -10,7 +10,7 @@ use Rattle.rules.specs.declared.tasks.Task.{Task}
 use Rattle.std.proofs.lemmas.List.Sums.{sum_by-cons}
 use Rattle.std.proofs.lemmas.Bool.{cases_Bool}
 use Rattle.std.proofs.lemmas.Bool.Decides.{nat_tests}
-use Rattle.std.specs.List.{AllByRecursion as All}
+use Rattle.std.specs.List.{AllByRecursion}
 
 -- c ticks pass, no later than the deadline
 drift : (T c u : ℕ) (t : Task) → T + c ≤ t.deadline → T + c ≤ u
@@ -37,7 +37,7 @@ drift_slot T c u None p le = omega arith
 drift_slot T c u (Some t) p le = drift T c u t p.coming le
 
 -- all tasks together
-pub drift_all : (T c u : ℕ) (tasks : Tasks) → All (PassedSlot (T + c)) tasks → T + c ≤ u
+pub drift_all : (T c u : ℕ) (tasks : Tasks) → AllByRecursion (PassedSlot (T + c)) tasks → T + c ≤ u
     → sum_by (owed (T + c) u) tasks + sum_by (spare T u) tasks ≤ sum_by (owed T u) tasks + sum_by (spare (T + c) u) tasks + c * rates tasks
 drift_all T c u [] all le = omega arith
 drift_all T c u (x ∷ tasks) all le =
@@ -57,7 +57,7 @@ quiet_slot T u (Some t) q =
     (λ (want : wants_to_run t ≡ false). grind (arith, nat_tests))
     (cases_Bool (wants_to_run t))
 
-pub quiet_all : (T u : ℕ) (tasks : Tasks) → All (Quiet u) tasks → sum_by (owed T u) tasks ≡ 0
+pub quiet_all : (T u : ℕ) (tasks : Tasks) → AllByRecursion (Quiet u) tasks → sum_by (owed T u) tasks ≡ 0
 quiet_all T u [] all = refl
 quiet_all T u (x ∷ tasks) all = simp sum_by-cons (omega (arith, quiet_slot T u x all.0, quiet_all T u tasks all.1))
 
@@ -66,9 +66,9 @@ due_slot_no_worse : (T : ℕ) (x : Option Task) → PassedSlot T x → NoWorse T
 due_slot_no_worse T None p u le = omega arith
 due_slot_no_worse T (Some t) p u le = due_no_worse T t p u le
 
-due_sums : (T u : ℕ) (tasks : Tasks) → T ≤ u → All (PassedSlot T) tasks → sum_by (owed T u) (map (due_at T) tasks) + sum_by (spare T u) tasks ≤ sum_by (owed T u) tasks + sum_by (spare T u) (map (due_at T) tasks)
+due_sums : (T u : ℕ) (tasks : Tasks) → T ≤ u → AllByRecursion (PassedSlot T) tasks → sum_by (owed T u) (map (due_at T) tasks) + sum_by (spare T u) tasks ≤ sum_by (owed T u) tasks + sum_by (spare T u) (map (due_at T) tasks)
 due_sums T u [] le all = omega arith
 due_sums T u (x ∷ tasks) le all = simp sum_by-cons (omega (arith, due_slot_no_worse T x all.0 u le, due_sums T u tasks le all.1))
 
-pub due_feasible : (T : ℕ) (tasks : Tasks) → All (PassedSlot T) tasks → Feasible T tasks → Feasible T (map (due_at T) tasks)
+pub due_feasible : (T : ℕ) (tasks : Tasks) → AllByRecursion (PassedSlot T) tasks → Feasible T tasks → Feasible T (map (due_at T) tasks)
 due_feasible T tasks all feasible u le = omega (arith, feasible u le, due_sums T u tasks le all)

@@ -20,14 +20,14 @@ use Rattle.std.proofs.ByRecursion.{All-from_get_or, All-get_or, All-set}
 use Rattle.std.proofs.lemmas.List.{get_or-map}
 use Rattle.std.proofs.lemmas.List.Sums.{sum_by-set}
 use Rattle.std.proofs.lemmas.Bool.{and_parts, cases_Bool, cases_eq, cases_lt, cond-false, cond-true, true≢false}
-use Rattle.std.specs.List.{AllByRecursion as All}
+use Rattle.std.specs.List.{AllByRecursion}
 
 some_deadline : (a b : Entry) → Some a ≡ Some b → a.deadline ≡ b.deadline
 some_deadline a b is = let s : a ≡ b = cc in ap (λ x. x.deadline) s
 
 -- by a time after its deadline: all drift, and the turn's task is charged
 turn_late : (T c u : ℕ) (tasks : Tasks) (i : ℕ) (t : Task) → i < length tasks → get_or tasks i None ≡ Some t → wants_to_run t ≡ true → c ≤ t.left → T + c ≤ t.deadline → t.deadline ≤ u
-    → All (PassedSlot (T + c)) tasks → rates tasks ≤ 1000 → Feasible T tasks
+    → AllByRecursion (PassedSlot (T + c)) tasks → rates tasks ≤ 1000 → Feasible T tasks
     → sum_by (owed (T + c) u) (set tasks i (charged c (Some t))) ≤ sum_by (spare (T + c) u) (set tasks i (charged c (Some t)))
 turn_late T c u tasks i t lt is want few due late passed shared feasible =
     let ready : is_ready t.phase ≡ true = (and_parts (is_ready t.phase) (ltb 0 t.left) want).0 in
@@ -78,7 +78,7 @@ module _ (before : Entry → Entry → Bool) (laws : Lawful before) (tasks : Tas
   quiet_at e lead u lt i in' None is = tt
   quiet_at e lead u lt i in' (Some t) is = λ want. omega (arith, later e lead t (wants_held i t in' is want))
 
-  quiet_first : (e : Entry) → Leads before held e → (u : ℕ) → u < e.deadline → All (Quiet u) tasks
+  quiet_first : (e : Entry) → Leads before held e → (u : ℕ) → u < e.deadline → AllByRecursion (Quiet u) tasks
   quiet_first e lead u lt = All-from_get_or (Quiet u) tasks None (λ i in'. quiet_at e lead u lt i in' (get_or tasks i None) refl)
 
   -- and with an empty list nothing is owed at all
@@ -86,7 +86,7 @@ module _ (before : Entry → Entry → Bool) (laws : Lawful before) (tasks : Tas
   idle_at empty u i in' None is = tt
   idle_at empty u i in' (Some t) is = λ want. absurd (none_holds (entry_for t) (subst (λ h. entry_at h t.number ≡ Some (entry_for t)) empty (wants_held i t in' is want)))
 
-  quiet_idle : held ≡ none → (u : ℕ) → All (Quiet u) tasks
+  quiet_idle : held ≡ none → (u : ℕ) → AllByRecursion (Quiet u) tasks
   quiet_idle empty u = All-from_get_or (Quiet u) tasks None (λ i in'. idle_at empty u i in' (get_or tasks i None) refl)
 
   -- the slot of the first entry
@@ -115,7 +115,7 @@ module _ (before : Entry → Entry → Bool) (laws : Lawful before) (tasks : Tas
   quiet_charged u c t lt = λ _. lt
 
   -- a turn of the first entry, or an idle one
-  pub turn_feasible : (T c : ℕ) (first : Option Entry) → Least before held first → All (PassedSlot (T + c)) tasks → rates tasks ≤ 1000 → c ≤ length_of T tasks first → Feasible T tasks → Feasible (T + c) (charged_in (runs_of first) c tasks)
+  pub turn_feasible : (T c : ℕ) (first : Option Entry) → Least before held first → AllByRecursion (PassedSlot (T + c)) tasks → rates tasks ≤ 1000 → c ≤ length_of T tasks first → Feasible T tasks → Feasible (T + c) (charged_in (runs_of first) c tasks)
   turn_feasible T c None least passed shared few feasible u le = omega (arith, quiet_all (T + c) u tasks (quiet_idle least u))
   turn_feasible T c (Some e) least passed shared few feasible u le =
       let l = leader e least in

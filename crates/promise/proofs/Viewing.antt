@@ -13,7 +13,7 @@ use Rattle.rules.specs.declared.changes.Change.TheVariants.{Finish, Period, Rate
 use Rattle.rules.specs.declared.tasks.Task.{Task}
 use Rattle.std.proofs.lemmas.List.{get_or-map, map-set}
 use Rattle.std.proofs.lemmas.Bool.{and_left, cases_Bool, cond_both, cond-false, cond-true}
-use Rattle.std.specs.List.{AllByRecursion as All}
+use Rattle.std.specs.List.{AllByRecursion}
 
 -- a task with other ticks
 abbrev with_ticks : Task → ℕ → ℕ → Task
@@ -108,7 +108,7 @@ view-due T (x ∷ ledgers) =
     ap (λ y. y ∷ map (in_slot view) (map (follows T) (map (in_slot (due T)) ledgers))) (follows_due T x) ∙ ap (λ ts. due_at T (in_slot view x) ∷ ts) (view-due T ledgers)
 
 -- the tasks of a sheet, seen through their first ledgers
-pub view_made : (T : ℕ) (tasks : Tasks) → All (FreshSlot T) tasks → map (in_slot view) (map (in_slot opened) tasks) ≡ tasks
+pub view_made : (T : ℕ) (tasks : Tasks) → AllByRecursion (FreshSlot T) tasks → map (in_slot view) (map (in_slot opened) tasks) ≡ tasks
 view_made T [] all = refl
 view_made T (None ∷ tasks) all = ap (λ ts. None ∷ ts) (view_made T tasks all.1)
 view_made T (Some t ∷ tasks) all = ap (λ u. Some u ∷ map (in_slot view) (map (in_slot opened) tasks)) (view-opened t all.0.ran) ∙ ap (λ ts. Some t ∷ ts) (view_made T tasks all.1)

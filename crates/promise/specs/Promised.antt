@@ -15,7 +15,7 @@ use Rattle.order.specs.declared.entries.Entry.{Entry}
 use Rattle.promise.specs.Account.{Account, Ledger, fresh, moved, read_at, state_in}
 use Rattle.rules.specs.Tasks.{wants_to_run}
 use Rattle.rules.specs.declared.tasks.Task.{Task}
-use Rattle.std.specs.List.{AllByRecursion as All}
+use Rattle.std.specs.List.{AllByRecursion}
 
 -- what is read of a task at its deadline
 pub record Paid (a : Ledger) : Type 0 where
@@ -38,7 +38,7 @@ PaidBy (Faulty fault) a = Unit {0}
 PaidBy Done a = Unit {0}
 PaidBy (Withdrawn when) a = Unit {0}
 PaidBy (Opened turn) a = Unit {0}
-PaidBy (Settled T) a = All (PaidAt T) (read_at T a)
+PaidBy (Settled T) a = AllByRecursion (PaidAt T) (read_at T a)
 PaidBy (Refused why) a = Unit {0}
 PaidBy OutOfPlace a = Unit {0}
 

@@ -7,7 +7,7 @@ use Rattle.ready.proofs.Slots.{entry_at-in, slot_at-some}
 use Rattle.ready.specs.Held.{Held, Least, Slotted, better, entry_at, first_of, none}
 use Rattle.std.proofs.lemmas.List.{get_or-replicate}
 use Rattle.std.proofs.lemmas.Bool.{cases_eq, cases_Bool, cond-true, cond-false, true≢false}
-use Rattle.std.specs.List.{AllByRecursion as All}
+use Rattle.std.specs.List.{AllByRecursion}
 
 -- e is one of the slots' entries
 abbrev Among : Entry → Held → Type 0
@@ -16,7 +16,7 @@ Among e (x ∷ xs) = (x ≡ Some e) ⊎ Among e xs
 
 -- r leads the slots: none where all are empty, else an entry of them before all others
 abbrev Leading : (Entry → Entry → Bool) → Held → Option Entry → Type 0
-Leading before xs None = All (λ x. x ≡ None) xs
+Leading before xs None = AllByRecursion (λ x. x ≡ None) xs
 Leading before xs (Some e) = Among e xs × ((o : Entry) → Among o xs → (e.number ≡ o.number → ⊥) → before e o ≡ true)
 
 -- the numbers of the slots, from n on
@@ -114,7 +114,7 @@ at_among [] k e lt is = absurd (omega arith)
 at_among (x ∷ xs) zero e lt is = inl is
 at_among (x ∷ xs) (suc k) e lt is = inr (at_among xs k e (omega arith) is)
 
-all_none : (xs : Held) → All (λ x. x ≡ None) xs → xs ≡ replicate (length xs) None
+all_none : (xs : Held) → AllByRecursion (λ x. x ≡ None) xs → xs ≡ replicate (length xs) None
 all_none [] a = refl
 all_none (x ∷ xs) a = let rest : xs ≡ replicate (length xs) None = all_none xs a.1 in let head : x ≡ None = a.0 in cc
 

@@ -12,7 +12,7 @@ use Rattle.rehearsal.specs.declared.scripts.Step.TheVariants.{Turn, Change as ch
 use Rattle.rules.specs.Jobs.{left_of}
 use Rattle.rules.specs.declared.changes.Change.{Change}
 use Rattle.rules.specs.declared.changes.Change.TheVariants.{Period, Rate, Wait, Wake}
-use Rattle.std.specs.List.{AllByRecursion as All}
+use Rattle.std.specs.List.{AllByRecursion}
 
 -- the sheet's bytes: two task records, named A and B
 abbrev pub sheet : List ℕ
@@ -41,7 +41,7 @@ abbrev pub Holds : Case → Type 0
 Holds c = ((done_in c).outcome ≡ c.outcome) × (left_of (slice_index_or (done_in c).tasks 0 None) ≡ c.left)
 
 abbrev pub AllHold : List Case → Type 0
-AllHold list = All Holds list
+AllHold list = AllByRecursion Holds list
 
 abbrev pub cases : List Case
 cases =
