@@ -3,12 +3,12 @@
 
 mod options;
 
-use anyhow::anyhow;
 use heap::Heap;
 use options::{ListKind, Options, OrderKind, USAGE, parse};
 use order::ties::{ByNumber, ByRate};
 use rehearsal::play::{LONGEST_INPUT, rehearse};
 use std::io::Read;
+use std::process::ExitCode;
 use std::{env, fmt};
 use table::Table;
 
@@ -49,10 +49,11 @@ fn run(rt: &HostRuntime, options: Options) -> anyhow::Result<()> {
     Ok(())
 }
 
-fn main(rt: HostRuntime) -> anyhow::Result<()> {
+fn main(rt: HostRuntime) -> anyhow::Result<ExitCode> {
     let Some(options) = read_options(&rt)? else {
         eprintln!(rt; "{USAGE}")?;
-        return Err(anyhow!("no such command line"));
+        return Ok(ExitCode::FAILURE);
     };
-    run(&rt, options)
+    run(&rt, options)?;
+    Ok(ExitCode::SUCCESS)
 }
