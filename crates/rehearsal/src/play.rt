@@ -173,10 +173,7 @@ pub const LONGEST_INPUT: usize = 65_536;
 fn front<'a>(input: &'a [u8]) -> &'a [u8]
     ensures { result.now ≡ take 65536 input.now }
 {
-    if input.len() <= LONGEST_INPUT {
-        return input;
-    }
-    &input[0..LONGEST_INPUT]
+    &input[0..LONGEST_INPUT.min(input.len())]
 }
 
 // A whole rehearsal: what it prints for the input. It fails only for want of memory.
