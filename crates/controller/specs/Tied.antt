@@ -2,8 +2,6 @@
 use Rattle.std.specs.Prelude.{◌≡◌, ℕ, ◌^◌, ◌<◌, ◌≤◌, Bool, Some, None, Ok, Err, Option, Result}
 use Rattle.controller.specs.Tasks.{Mirrors, Tasks, rates}
 use Rattle.controller.specs.Turns.{begun}
-use Rattle.controller.specs.declared.states.OpenTurn.{OpenTurn}
-use Rattle.controller.specs.declared.states.Resting.{Resting}
 use Rattle.controller.specs.declared.states.Turn.{Turn}
 use Rattle.order.specs.declared.entries.Entry.{Entry}
 use Rattle.ready.specs.Held.{Held, first_of}
@@ -25,14 +23,14 @@ pub record Open (before : Entry → Entry → Bool) (turn : Turn) (tasks : Tasks
   pub early : turn.start < 2 ^ 40
   pub asked : turn ≡ begun turn.start tasks (first_of before held)
 
-abbrev pub OpenAfter : {E : Type 0} → (Entry → Entry → Bool) → Result OpenTurn E → Tasks → Held → Type 0 → Type 0
-OpenAfter before (Ok open') tasks held ok = Open before open'.turn tasks held ok
+abbrev pub OpenAfter : {E : Type 0} → (Entry → Entry → Bool) → Result Turn E → Tasks → Held → Type 0 → Type 0
+OpenAfter before (Ok turn) tasks held ok = Open before turn tasks held ok
 OpenAfter before (Err back) tasks held ok = Unit {0}
 
 -- after settle the controller rests, or its turn is still open
-abbrev pub AfterSettle : (Entry → Entry → Bool) → Result Resting (OpenTurn × Refusal) → Tasks → Held → Type 0 → Type 0
-AfterSettle before (Ok rest) tasks held ok = Tied rest.clock tasks held ok
-AfterSettle before (Err (open', why)) tasks held ok = Open before open'.turn tasks held ok
+abbrev pub AfterSettle : (Entry → Entry → Bool) → Result ℕ (Turn × Refusal) → Tasks → Held → Type 0 → Type 0
+AfterSettle before (Ok T) tasks held ok = Tied T tasks held ok
+AfterSettle before (Err (turn, why)) tasks held ok = Open before turn tasks held ok
 
 -- an entry's number is that of a slot
 abbrev pub InTable : Option Entry → Type 0
@@ -40,6 +38,6 @@ InTable None = Unit {0}
 InTable (Some e) = (1 ≤ e.number) × (e.number ≤ 64)
 
 -- no turn is of length 0
-abbrev pub LongEnough : {E : Type 0} → Result OpenTurn E → Type 0
-LongEnough (Ok open') = 0 < open'.turn.length
+abbrev pub LongEnough : {E : Type 0} → Result Turn E → Type 0
+LongEnough (Ok turn) = 0 < turn.length
 LongEnough (Err back) = Unit {0}

@@ -8,29 +8,16 @@ use crate::memory::TaskMemory;
 use crate::states::{LAST_TICK, OpenTurn, Resting, Runs, Turn};
 use order::entries::Entry;
 use ready::ReadyList;
-use rules::jobs::{left_of, sooner};
+use rules::jobs::left_of;
 use rules::refusals::Refusal;
-
-// The nearest deadline of any task, or the last tick where that is sooner.
-fn nearest(memory: &TaskMemory) -> u64
-    requires { length memory.now.slots ≡ 64 }
-    ensures { result ≡ nearest_of memory.now.slots }
-{
-    let mut time = LAST_TICK;
-    for slot in memory.slots.iter() {
-        time = sooner(time, *slot);
-    }
-    time
-}
 
 // The ticks that a turn of the first entry may last.
 fn turn_length(clock: u64, memory: &TaskMemory, first: Option<Entry>) -> u64
-    requires many { length memory.now.slots ≡ 64 }
     requires first { InTable first }
-    requires room { clock ≤ nearest_of memory.now.slots }
-    ensures { result ≡ length_of clock memory.now.slots first }
+    requires room { clock ≤ nearest_of memory.now }
+    ensures { result ≡ length_of clock memory.now first }
 {
-    let room = nearest(memory) - clock;
+    let room = memory.nearest() - clock;
     match first {
         None => room,
         Some(e) => left_of(memory.slots[e.number as usize - 1]).min(room),
@@ -57,9 +44,9 @@ impl Resting {
         memory: &TaskMemory,
         list: &L,
     ) -> Result<OpenTurn, (Resting, Refusal)>
-        requires { Tied self.clock memory.now.slots (L.ReadyList.held list.now) (L.ReadyList.ok list.now) }
-        ensures answer { result ≡ beginning self memory.now.slots (first_of L.Order.TieOrder.before (L.ReadyList.held list.now)) }
-        ensures tied { OpenAfter L.Order.TieOrder.before result memory.now.slots (L.ReadyList.held list.now) (L.ReadyList.ok list.now) }
+        requires { Tied self memory.now (L.ReadyList.held list.now) (L.ReadyList.ok list.now) }
+        ensures answer { result ≡ beginning self memory.now (first_of L.Order.TieOrder.before (L.ReadyList.held list.now)) }
+        ensures tied { OpenAfter L.Order.TieOrder.before result memory.now (L.ReadyList.held list.now) (L.ReadyList.ok list.now) }
         ensures length { LongEnough result }
     {
         if self.clock == LAST_TICK {

@@ -12,7 +12,6 @@ use crate::admit::enrol;
 use crate::faults::{SheetFault, place_of};
 use crate::memory::TaskMemory;
 use crate::states::Resting;
-use crate::store::clear;
 use ready::ReadyList;
 use rules::admission::Reservation;
 use sheet::records::{Record, TaskRecord, record_at};
@@ -23,9 +22,9 @@ fn enrol_task<L: ReadyList>(
     memory: &mut TaskMemory,
     list: &mut L,
 ) -> Result<(), SheetFault>
-    requires { Tied 0 memory.old.slots (L.ReadyList.held list.old) (L.ReadyList.ok list.old) }
-    ensures answer { with_tasks result memory.new.slots ≡ after_record memory.old.slots (task_of (task_value task.entry)) }
-    ensures tied { Tied 0 memory.new.slots (L.ReadyList.held list.new) (L.ReadyList.ok list.new) }
+    requires { Tied 0 memory.old (L.ReadyList.held list.old) (L.ReadyList.ok list.old) }
+    ensures answer { with_tasks result memory.new ≡ after_record memory.old (task_of (task_value task.entry)) }
+    ensures tied { Tied 0 memory.new (L.ReadyList.held list.new) (L.ReadyList.ok list.new) }
 {
     let asked = Reservation {
         number: task.number.value,
@@ -44,9 +43,9 @@ fn enrol_record<L: ReadyList>(
     memory: &mut TaskMemory,
     list: &mut L,
 ) -> Result<(), SheetFault>
-    requires { Tied 0 memory.old.slots (L.ReadyList.held list.old) (L.ReadyList.ok list.old) }
-    ensures answer { with_tasks result memory.new.slots ≡ after_record memory.old.slots (record_value found.entry) }
-    ensures tied { Tied 0 memory.new.slots (L.ReadyList.held list.new) (L.ReadyList.ok list.new) }
+    requires { Tied 0 memory.old (L.ReadyList.held list.old) (L.ReadyList.ok list.old) }
+    ensures answer { with_tasks result memory.new ≡ after_record memory.old (record_value found.entry) }
+    ensures tied { Tied 0 memory.new (L.ReadyList.held list.new) (L.ReadyList.ok list.new) }
 {
     match found {
         Record::Task(task) => enrol_task(task, memory, list),
@@ -56,9 +55,9 @@ fn enrol_record<L: ReadyList>(
 
 // All records of the sheet, from the left; the first fault ends it.
 fn load<L: ReadyList>(sheet: &[u8], memory: &mut TaskMemory, list: &mut L) -> Result<(), SheetFault>
-    requires { Tied 0 memory.old.slots (L.ReadyList.held list.old) (L.ReadyList.ok list.old) }
-    ensures answer { with_tasks result memory.new.slots ≡ enrolled memory.old.slots (sheet_of sheet.now) }
-    ensures tied { Tied 0 memory.new.slots (L.ReadyList.held list.new) (L.ReadyList.ok list.new) }
+    requires { Tied 0 memory.old (L.ReadyList.held list.old) (L.ReadyList.ok list.old) }
+    ensures answer { with_tasks result memory.new ≡ enrolled memory.old (sheet_of sheet.now) }
+    ensures tied { Tied 0 memory.new (L.ReadyList.held list.new) (L.ReadyList.ok list.new) }
 {
     let mut place = 0;
     while let Some(found) = record_at(sheet, place)? {
@@ -68,28 +67,14 @@ fn load<L: ReadyList>(sheet: &[u8], memory: &mut TaskMemory, list: &mut L) -> Re
     Ok(())
 }
 
-// How many tasks there are.
-fn count(memory: &TaskMemory) -> u32
-    requires { length memory.now.slots ≡ 64 }
-    ensures { result ≡ count_by is_some memory.now.slots }
-{
-    let mut tasks = 0;
-    for slot in memory.slots.iter() {
-        if slot.is_some() {
-            tasks += 1;
-        }
-    }
-    tasks
-}
-
 // A controller without tasks, at the clock 0, whatever memory and list held before.
 pub fn start<L: ReadyList>(memory: &mut TaskMemory, list: &mut L) -> Resting
-    ensures clock { result.clock ≡ 0 }
-    ensures tasks { memory.new.slots ≡ no_tasks }
-    ensures list { L.ReadyList.held list.new ≡ map entry_of memory.new.slots }
-    ensures tied { Tied result.clock memory.new.slots (L.ReadyList.held list.new) (L.ReadyList.ok list.new) }
+    ensures clock { result ≡ 0 }
+    ensures tasks { memory.new ≡ no_tasks }
+    ensures list { L.ReadyList.held list.new ≡ map entry_of memory.new }
+    ensures tied { Tied result memory.new (L.ReadyList.held list.new) (L.ReadyList.ok list.new) }
 {
-    clear(memory, list);
+    memory.clear(list);
     Resting { clock: 0 }
 }
 
@@ -100,16 +85,16 @@ pub fn make<L: ReadyList>(
     list: &mut L,
 ) -> (Resting, Result<u32, SheetFault>)
     ensures answer { result.1 ≡ make_answer (made sheet.now) }
-    ensures clock { result.0.clock ≡ 0 }
-    ensures tasks { memory.new.slots ≡ made_tasks (made sheet.now) }
-    ensures list { L.ReadyList.held list.new ≡ map entry_of memory.new.slots }
-    ensures tied { Tied result.0.clock memory.new.slots (L.ReadyList.held list.new) (L.ReadyList.ok list.new) }
+    ensures clock { result.0 ≡ 0 }
+    ensures tasks { memory.new ≡ made_tasks (made sheet.now) }
+    ensures list { L.ReadyList.held list.new ≡ map entry_of memory.new }
+    ensures tied { Tied result.0 memory.new (L.ReadyList.held list.new) (L.ReadyList.ok list.new) }
 {
     let rest = start(memory, list);
     match load(sheet, memory, list) {
-        Ok(()) => (rest, Ok(count(memory))),
+        Ok(()) => (rest, Ok(memory.count())),
         Err(fault) => {
-            clear(memory, list);
+            memory.clear(list);
             (rest, Err(fault))
         }
     }

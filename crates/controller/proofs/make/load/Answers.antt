@@ -7,27 +7,21 @@ use Rattle.sheet.proofs.Laws.{no_record, progress, some_record}
 use Rattle.sheet.proofs.Readings.{handed_on}
 use Rattle.sheet.specs.Values.{record_value}
 
-pub returns-in_err-found : goal.returns-in_err-found
-returns-in_err-found g c =
-    let slots = c.loop-found.memory.slots in
+pub returns-in_err-found-clause-answer : goal.returns-in_err-found-clause-answer
+returns-in_err-found-clause-answer g c =
+    let slots = c.loop-found.memory in
     let fault = c.in_err-found.field-0.0 in
-    record {
-      answer = ap (λ r. with_tasks r slots) (handed_on c.from_residual.result (InRecord fault) c.from_residual.ensures.1)
-          ∙ (load_fault c.args.sheet.now c.loop-found.place slots fault (sym c.in_err-found.ensures) ∙ c.loop-found.invariant.0);
-      tied = c.loop-found.invariant.1;
-    }
+    ap (λ r. with_tasks r slots) (handed_on c.from_residual.result (InRecord fault) c.from_residual.ensures.1)
+    ∙ (load_fault c.args.sheet.now c.loop-found.place slots fault (sym c.in_err-found.ensures) ∙ c.loop-found.invariant.0)
 
-pub returns-in_err-enrol_record : goal.returns-in_err-enrol_record
-returns-in_err-enrol_record g c =
+pub returns-in_err-enrol_record-clause-answer : goal.returns-in_err-enrol_record-clause-answer
+returns-in_err-enrol_record-clause-answer g c =
     let sheet = c.args.sheet.now in
     let place = c.loop-found.place in
     let fault = c.in_err-enrol_record.field-0.0 in
     let here = some_record sheet place _ c.in-Some.found c.in_ok-found.ensures c.in-Some.is in
-    record {
-      answer = ap (λ r. with_tasks r c.enrol_record.new.memory.slots) (handed_on c.from_residual-in_err-enrol_record.result fault c.from_residual-in_err-enrol_record.ensures.1)
-          ∙ (load_refused sheet place c.loop-found.memory.slots (record_value c.in-Some.found.record) c.in-Some.found.end fault here c.in_err-enrol_record.ensures.answer ∙ c.loop-found.invariant.0);
-      tied = c.enrol_record.ensures.tied;
-    }
+    ap (λ r. with_tasks r c.enrol_record.new.memory) (handed_on c.from_residual-in_err-enrol_record.result fault c.from_residual-in_err-enrol_record.ensures.1)
+    ∙ (load_refused sheet place c.loop-found.memory (record_value c.in-Some.found.record) c.in-Some.found.end fault here c.in_err-enrol_record.ensures.answer ∙ c.loop-found.invariant.0)
 
 pub loop-found-smaller : goal.loop-found-smaller
 loop-found-smaller g c =
@@ -39,13 +33,9 @@ loop-found-preserved g c =
     let sheet = c.args.sheet.now in
     let place = c.loop-found.place in
     let here = some_record sheet place _ c.in-Some.found c.in_ok-found.ensures c.in-Some.is in (
-      load_record sheet place c.loop-found.memory.slots (record_value c.in-Some.found.record) c.in-Some.found.end c.enrol_record.new.memory.slots here c.in_ok-enrol_record.ensures.answer ∙ c.loop-found.invariant.0,
+      load_record sheet place c.loop-found.memory (record_value c.in-Some.found.record) c.in-Some.found.end c.enrol_record.new.memory here c.in_ok-enrol_record.ensures.answer ∙ c.loop-found.invariant.0,
       c.enrol_record.ensures.tied,
     )
 
-pub returns : goal.returns
-returns g c =
-    record {
-      answer = load_none c.args.sheet.now c.loop-found.place c.loop-found.memory.slots (no_record c.args.sheet.now c.loop-found.place _ c.in_ok-found.ensures c.in_default.is) ∙ c.loop-found.invariant.0;
-      tied = c.loop-found.invariant.1;
-    }
+pub returns-clause-answer : goal.returns-clause-answer
+returns-clause-answer g c = load_none c.args.sheet.now c.loop-found.place c.loop-found.memory (no_record c.args.sheet.now c.loop-found.place _ c.in_ok-found.ensures c.in_default.is) ∙ c.loop-found.invariant.0

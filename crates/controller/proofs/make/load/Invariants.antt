@@ -7,8 +7,8 @@ use Rattle.sheet.specs.Sheets.{sheet_from, sheet_of}
 -- what is left of the sheet leads from the tasks so far to the same end
 abbrev pub invariant-loop-found : goal.invariant-loop-found
 invariant-loop-found g l =
-    (enrolled l.memory.slots (sheet_from l.sheet l.place) ≡ enrolled l.initial.memory.slots (sheet_of l.sheet))
-    × Tied 0 l.memory.slots (g.L.ReadyList.held l.list) (g.L.ReadyList.ok l.list)
+    (enrolled l.memory (sheet_from l.sheet l.place) ≡ enrolled l.initial.memory (sheet_of l.sheet))
+    × Tied 0 l.memory (g.L.ReadyList.held l.list) (g.L.ReadyList.ok l.list)
 
 abbrev pub decreases-loop-found : goal.decreases-loop-found
 decreases-loop-found g l = length l.sheet - l.place
