@@ -11,14 +11,8 @@ fn name_place(candidate: Record, name: &[u8]) -> Option<usize>
     ensures { result ≡ named name.now (record_value candidate.entry) }
 {
     match candidate {
-        Record::Task(task) => {
-            if task.name == name {
-                Some(task.name_place)
-            } else {
-                None
-            }
-        }
-        Record::Note { .. } => None,
+        Record::Task(task) if task.name == name => Some(task.name_place),
+        Record::Task(_) | Record::Note { .. } => None,
     }
 }
 

@@ -5,7 +5,7 @@ use crate::records::Told;
 fn told(sheet: &[u8]) -> Option<Told> {
     match find(sheet, b"") {
         Ok(_) => None,
-        Err(fault) => Some(fault.told()),
+        Err(fault) => Some(Told::from(fault)),
     }
 }
 

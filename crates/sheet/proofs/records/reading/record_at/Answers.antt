@@ -3,7 +3,7 @@ use Rattle.sheet.specs.Values.{record_of}
 use Rattle.sheet.proofs.Bodies.{part_split, part_none, part_none_left}
 use Rattle.sheet.proofs.Readings.{handed_on}
 use Rattle.sheet.specs.Records.{body_in}
-use Rattle.sheet.proofs.records.record_at.Goals as goal
+use Rattle.sheet.proofs.records.reading.record_at.Goals as goal
 
 pub returns-then-place-sheet : goal.returns-then-place-sheet
 returns-then-place-sheet c = part_none body_in _ _ (omega arith)
