@@ -1,5 +1,5 @@
 -- Slots by number: what a write to one slot keeps.
-use Rattle.std.proofs.Common.{◌≡◌, ℕ, ◌+◌, ◌-◌, ◌<◌, ◌≤◌, true, false, List, length, get_or, set, replicate, is_some, Some, None, Option, sym, refl, ap, ◌∙◌, subst, ⊎_elim, arith, length-set, get_or-set_other, get_or-set_same}
+use Rattle.std.proofs.Common.{◌≡◌, ℕ, ◌+◌, ◌-◌, ◌<◌, ◌≤◌, true, false, List, get_or, set, replicate, is_some, Some, None, Option, sym, refl, ◌∙◌, arith, length-set, get_or-set_other}
 use lib.ListN.{length-replicate}
 use Rattle.order.specs.Orders.{in_range}
 use Rattle.order.specs.declared.entries.Entry.{Entry}
@@ -7,7 +7,6 @@ use Rattle.ready.specs.Held.{Held, PlacedBy, Slotted, entry_at, slot_at, free, h
 use Rattle.std.proofs.lemmas.Bool.Decides.{nat_tests}
 use Rattle.std.proofs.lemmas.Grind.{common_steps}
 use Rattle.std.proofs.lemmas.List.{get_or-replicate, set-get_or, set-set}
-use Rattle.std.proofs.lemmas.Bool.{cases_Bool, cases_eq, cond-false, cond-true, true≢false}
 
 module _ {A : Type 0} (number : A → ℕ) where
   -- a slot takes nothing, or what has its number
