@@ -1,17 +1,17 @@
 -- Put: the tree with a new entry behind its last.
-use Rattle.std.proofs.Common.{◌≡◌, ℕ, ◌+◌, ◌-◌, ◌<◌, ◌≤◌, Bool, true, false, set, is_some, Some, None, count_by, Option, sym, ap, ◌∙◌, subst, ⊎_elim, arith, length-set}
+use Rattle.std.proofs.Common.{◌≡◌, ℕ, ◌+◌, ◌-◌, ◌<◌, ◌≤◌, Bool, true, false, set, is_some, not, Some, None, count_by, Option, sym, ap, ◌∙◌, subst, ⊎_elim, arith, length-set}
 use Rattle.heap.proofs.Paths.{as_held, by}
 use Rattle.heap.proofs.Moves.{entry_kept, entry_laid, place_kept, place_laid, resized}
 use Rattle.heap.proofs.Standing.{count_set, found_holds, held_is, numbered, some_found, some_none}
 use Rattle.heap.specs.Sifts.{BeforeChildren, Holed}
-use Rattle.heap.specs.Sound.{Ordered, Sound, Stands, entry_in, found, held_in, laid, parent, place_in, where_in}
+use Rattle.heap.specs.Sound.{Ordered, Sound, Stands, entry_in, found, held_in, laid, parent, place_in}
 use Rattle.heap.specs.declared.memory.Tree.{Tree}
 use Rattle.order.specs.Orders.{in_range}
 use Rattle.order.specs.declared.entries.Entry.{Entry}
 use Rattle.ready.proofs.Slots.{entry_slot, entry_at-set_other, entry_at-set_same, slot_at-some, free_yes, none_from_empty, number_high, slot_back, slotted_set}
-use Rattle.ready.specs.Held.{Held, entry_at, free, put_in}
+use Rattle.ready.specs.Held.{Held, entry_at, free, holds, put_in}
 use Rattle.std.proofs.lemmas.List.Sums.{count_by-le-length}
-use Rattle.std.proofs.lemmas.Bool.{cases_eq, cond-true}
+use Rattle.std.proofs.lemmas.Bool.{and_parts, cases_eq, cond-true, not-true}
 
 -- the tree with an entry behind its last, which is still to sift up
 abbrev pub grown : Tree → Entry → Tree
@@ -76,40 +76,26 @@ module _ (tree : Tree) (held : Held) (s : Stands tree held) (e : Entry) (range :
       }
 
   -- only the step up from the new entry may be out of order
-  holed_put : (before : Entry → Entry → Bool) → Ordered before tree
-      → Holed before (set held (e.number - 1) (Some e)) (grown tree e) tree.len × BeforeChildren before (grown tree e) tree.len
-  holed_put before ordered = (
-    record {
-      stands = stands_put;
-      within = omega arith;
-      others = λ k lk lt nk np. by before (entry_kept tree tree.len e (parent k) np) (entry_kept tree tree.len e k nk) (ordered k lk (omega arith));
-      across = λ k lk lt child low. absurd (omega arith);
-    },
-    λ k lk lt child. absurd (omega arith),
-  )
+  holed_put : (before : Entry → Entry → Bool) → Ordered before tree → Holed before (set held (e.number - 1) (Some e)) (grown tree e) tree.len
+  holed_put before ordered = record {
+    stands = stands_put;
+    within = omega arith;
+    others = λ k lk lt nk np. by before (entry_kept tree tree.len e (parent k) np) (entry_kept tree tree.len e k nk) (ordered k lk (omega arith));
+    across = λ k lk lt child low. absurd (omega arith);
+  }
 
--- what put may say of an entry whose number the tree does not hold
+-- what push may say of an entry whose number the tree does not hold
 pub record Entering (before : Entry → Entry → Bool) (tree : Tree) (e : Entry) : Type 0 where
-  pub answer : true ≡ free (held_in tree) e.number
-  pub list : (after : Held) → after ≡ held_in (grown tree e) → after ≡ put_in (held_in tree) e
+  pub list : held_in (grown tree e) ≡ put_in (held_in tree) e
   pub holed : Holed before (held_in (grown tree e)) (grown tree e) tree.len
-  pub below : BeforeChildren before (grown tree e) tree.len
 
--- put of a task number that the index does not find
-pub entering : (before : Entry → Entry → Bool) (tree : Tree) → Sound before tree → (e : Entry) → true ≡ in_range e.number
-    → (place : Option ℕ) → place ≡ where_in tree e.number → false ≡ is_some place → Entering before tree e
-entering before tree ok e range place looked miss =
-    let number = e.number in
+pub entering : (before : Entry → Entry → Bool) (tree : Tree) → Sound before tree → (e : Entry) → free (held_in tree) e.number ≡ true → Entering before tree e
+entering before tree ok e is =
     let held = held_in tree in
-    let held' = set held (number - 1) (Some e) in
-    let empty : is_some (entry_at held number) ≡ false =
-    sym (found_holds tree held ok.stands number) ∙ (sym (some_found (found tree number) (place_in tree number)) ∙ (ap is_some (sym looked) ∙ sym miss)) in
-    let nothing : entry_at held number ≡ None = none_from_empty (entry_at held number) empty in
-    let yes' : true ≡ free held number = free_yes held number range (sym empty ∙ ap is_some (entry_slot held number (sym range))) in
-    let open' = holed_put tree held ok.stands e (sym range) nothing before ok.ordered in
+    let held' = set held (e.number - 1) (Some e) in
+    let parts = and_parts (in_range e.number) (not (holds held e.number)) is in
+    let holed = holed_put tree held ok.stands e parts.0 (none_from_empty (entry_at held e.number) (not-true (holds held e.number) parts.1)) before ok.ordered in
     record {
-      answer = yes';
-      list = λ after is. is ∙ (held_is (grown tree e) held' open'.0.stands ∙ sym (cond-true (free held number) held' held (sym yes')));
-      holed = as_held before (grown tree e) held' tree.len open'.0;
-      below = open'.1;
+      list = held_is (grown tree e) held' holed.stands ∙ sym (cond-true (free held e.number) held' held is);
+      holed = as_held before (grown tree e) held' tree.len holed;
     }

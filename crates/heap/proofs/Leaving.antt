@@ -4,7 +4,7 @@ use Rattle.heap.proofs.Paths.{as_held, by, linked}
 use Rattle.heap.proofs.Moves.{entry_kept, entry_laid, place_kept, place_laid, resized}
 use Rattle.heap.proofs.Standing.{apart, count_set, found_holds, held_is, numbered, some_found, some_none}
 use Rattle.heap.specs.Sifts.{Holed}
-use Rattle.heap.specs.Sound.{Ordered, Sound, Stands, entry_in, found, held_in, laid, parent, place_in, where_in}
+use Rattle.heap.specs.Sound.{Ordered, Sound, Stands, entry_in, found, held_in, laid, parent, place_in}
 use Rattle.heap.specs.declared.memory.Tree.{Tree}
 use Rattle.order.specs.Orders.{Lawful, in_range}
 use Rattle.order.specs.declared.entries.Entry.{Entry}
@@ -109,46 +109,28 @@ module _ (tree : Tree) (held : Held) (s : Stands tree held) (number : ℕ) (plac
       ap (λ es. record { entries = es; places = set tree.places (last.number - 1) place; len = tree.len - 1 }) entries
       ∙ ap (λ ps. record { entries = tree.entries; places = ps; len = tree.len - 1 }) places
 
--- what take out may say of a number that stands at a place
-pub record Leaving (before : Entry → Entry → Bool) (tree : Tree) (number : ℕ) (place : ℕ) (last : Entry) : Type 0 where
-  pub answer : true ≡ holds (held_in tree) number
-  pub list : (after : Held) → after ≡ held_in (filled tree place last) → after ≡ taken_out (held_in tree) number
+-- what remove may say of a place
+pub record Leaving (before : Entry → Entry → Bool) (tree : Tree) (place : ℕ) (last : Entry) : Type 0 where
+  pub list : held_in (filled tree place last) ≡ taken_out (held_in tree) (entry_in tree place).number
   pub holed : place < tree.len - 1 → Holed before (held_in (filled tree place last)) (filled tree place last) place
   -- where the last entry itself leaves, the rest is in order as it stands
-  pub rest : tree.len - 1 ≤ place → (held_in (resized tree (tree.len - 1)) ≡ taken_out (held_in tree) number) × Sound before (resized tree (tree.len - 1))
+  pub rest : tree.len - 1 ≤ place → (held_in (resized tree (tree.len - 1)) ≡ taken_out (held_in tree) (entry_in tree place).number) × Sound before (resized tree (tree.len - 1))
 
--- take out of a number that the index finds
-pub leaving : (before : Entry → Entry → Bool) → Lawful before → (tree : Tree) → Sound before tree → (number place : ℕ) → Some place ≡ where_in tree number
-    → (last : Entry) → last ≡ entry_in tree (tree.len - 1) → Leaving before tree number place last
-leaving before laws tree ok number place looked last is_last =
+pub leaving : (before : Entry → Entry → Bool) → Lawful before → (tree : Tree) → Sound before tree → (place : ℕ) → place < tree.len → (last : Entry) → last ≡ entry_in tree (tree.len - 1) → Leaving before tree place last
+leaving before laws tree ok place within last is_last =
+    let number = (entry_in tree place).number in
     let held = held_in tree in
     let held' = set held (number - 1) None in
     let cut = resized tree (tree.len - 1) in
-    let noted = place_in tree number in
-    let hit : found tree number ≡ true = sym (some_found (found tree number) noted) ∙ ap is_some (sym looked) in
-    let both : Some place ≡ Some noted = looked ∙ cond-true (found tree number) (Some noted) None hit in
-    let there : noted ≡ place = cc in
-    let parts = and_parts (ltb noted tree.len) (eqb (entry_in tree noted).number number) hit in
-    let within : place < tree.len = subst (λ p. p < tree.len) there (ltb-true noted tree.len parts.0) in
-    let its : (entry_in tree place).number ≡ number = ap (λ p. (entry_in tree p).number) (sym there) ∙ eqb-true (entry_in tree noted).number number parts.1 in
-    let yes' : true ≡ holds held number = sym hit ∙ found_holds tree held ok.stands number in
-    let s : Stands (filled tree place last) held' = stands_take tree held ok.stands number place within its last is_last in
-    let list : held_in (filled tree place last) ≡ taken_out held number = held_is (filled tree place last) held' s ∙ sym (cond-true (holds held number) held' held (sym yes')) in
+    let s : Stands (filled tree place last) held' = stands_take tree held ok.stands number place within refl last is_last in
+    let list : held_in (filled tree place last) ≡ taken_out held number = held_is (filled tree place last) held' s ∙ sym (cond-true (holds held number) held' held (ap is_some (ok.stands.kept place within))) in
     record {
-      answer = yes';
-      list = λ after is. is ∙ list;
-      holed = λ in'. as_held before (filled tree place last) held' place (holed_take tree held ok.stands number place within its last is_last before laws ok.ordered in');
+      list = list;
+      holed = λ in'. as_held before (filled tree place last) held' place (holed_take tree held ok.stands number place within refl last is_last before laws ok.ordered in');
       rest = λ out.
-          let same : filled tree place last ≡ cut = last_taken tree held ok.stands number place within its last is_last (omega arith) in
+          let same : filled tree place last ≡ cut = last_taken tree held ok.stands number place within refl last is_last (omega arith) in
           let alone : Stands cut held' = subst (λ t. Stands t held') same s in (
             ap held_in (sym same) ∙ list,
             record { stands = subst (Stands cut) (sym (held_is cut held' alone)) alone; ordered = λ k lk kn. ok.ordered k lk (omega arith) },
           );
     }
-
--- take out of a number that the index does not find
-pub not_leaving : (before : Entry → Entry → Bool) (tree : Tree) → Sound before tree → (number : ℕ) → None ≡ where_in tree number
-    → (false ≡ holds (held_in tree) number) × (held_in tree ≡ taken_out (held_in tree) number)
-not_leaving before tree ok number looked =
-    let miss : false ≡ holds (held_in tree) number = ap is_some looked ∙ (some_found (found tree number) (place_in tree number) ∙ found_holds tree (held_in tree) ok.stands number) in
-    (miss, sym (cond-false (holds (held_in tree) number) (set (held_in tree) (number - 1) None) (held_in tree) (sym miss)))

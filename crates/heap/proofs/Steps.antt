@@ -1,20 +1,35 @@
 -- The steps of a sift: what each test says, and that a turn or the end keeps the tree's order.
-use Rattle.std.proofs.Common.{◌≡◌, ℕ, ◌+◌, ◌<◌, Bool, true, false, ◌&&◌, ltb, Some, None, sym, refl, ap, ◌∙◌, subst, ⊎_elim, arith}
+use Rattle.std.proofs.Common.{◌≡◌, ℕ, ◌⊎◌, inl, inr, ◌+◌, ◌<◌, Bool, true, false, ◌&&◌, ltb, cond, is_some, Some, None, Option, ◌-◌, sym, refl, ap, ◌∙◌, subst, ⊎_elim, arith}
 use Rattle.heap.proofs.Paths.{by, linked, risen, sound, sunk, turned}
 use Rattle.heap.proofs.Moves.{Exchanged, entry_kept, in_hole, moved_number, pulled, pulled_number}
-use Rattle.heap.proofs.Standing.{held_is, some_none}
-use Rattle.heap.specs.Sifts.{AfterParent, BeforeChildren, Holed, first_child, rises, sinks_to}
+use Rattle.heap.proofs.Standing.{apart, held_is, some_none}
+use Rattle.heap.specs.Sifts.{AfterParent, BeforeChildren, Holed, first_child, next_place, rises, sinks_to}
 use Rattle.heap.specs.Sound.{Sound, entry_in, held_in, laid, left_child, parent}
 use Rattle.heap.specs.declared.memory.Tree.{Tree}
 use Rattle.order.specs.Orders.{Lawful, in_range}
 use Rattle.order.specs.declared.entries.Entry.{Entry}
 use Rattle.ready.proofs.Slots.{range_from}
 use Rattle.ready.specs.Held.{Held}
-use Rattle.std.proofs.lemmas.Bool.{and_cases, and_parts, cases_Bool, cases_eq, cond-false, cond-true, ltb-false, ltb-true}
+use Rattle.std.proofs.lemmas.Bool.{and_cases, and_parts, cases_Bool, cases_eq, cond-false, cond-true, false_from_ne_true, ltb-false, ltb-true}
 
--- an entry that rises is not at the root
-pub rises_low : (before : Entry → Entry → Bool) (tree : Tree) (h : ℕ) (x : Entry) → true ≡ rises before tree h x → 0 < h
-rises_low before tree h x is = ltb-true 0 h (and_parts (ltb 0 h) (before x (entry_in tree (parent h))) (sym is)).0
+-- how many turns a sift may still take at a place: it goes up, or down, or has no place to go to
+abbrev pub turns : Bool → Option ℕ → ℕ → ℕ → ℕ
+turns up down h len = cond up (h + 1) (cond (is_some down) (len - h) 0)
+
+abbrev pub turns_left : (Entry → Entry → Bool) → Tree → ℕ → Entry → ℕ
+turns_left before tree h x = turns (rises before tree h x) (sinks_to before tree h x) h tree.len
+
+-- what went up does not go down any more, and the other way round
+fewer_up : (up up' : Bool) (down down' : Option ℕ) (h c len len' : ℕ) → up ≡ true → down' ≡ None → c < h → turns up' down' c len' < turns up down h len
+fewer_up up up' down down' h c len len' yes' no' lt = grind arith
+
+fewer_down : (up up' : Bool) (down down' : Option ℕ) (h c len len' : ℕ) → up ≡ false → down ≡ Some c → up' ≡ false → h < c → c < len → len' ≡ len → turns up' down' c len' < turns up down h len
+fewer_down up up' down down' h c len len' no' yes' out lt within same = grind arith
+
+-- what is never something is nothing
+none_from : {A : Type 0} (o : Option A) → ((a : A) → o ≡ Some a → ⊥) → o ≡ None
+none_from None never = refl
+none_from (Some a) never = absurd (never a refl)
 
 -- a child of the hole that comes before its other children
 record Best (before : Entry → Entry → Bool) (tree : Tree) (h c : ℕ) : Type 0 where
@@ -133,37 +148,77 @@ module _ (before : Entry → Entry → Bool) (laws : Lawful before) (tree : Tree
       (and_cases (ltb (left_child h) tree.len) (before (entry_in tree fc) x) miss))
       (cases_Bool test)
 
-  -- the tree after an entry was pulled over the hole
-  module _ (c : ℕ) (cn : c < tree.len) (ne : c ≡ h → ⊥) (y : Entry) (is : y ≡ entry_in tree c) (new : Tree) (wrote : new ≡ laid tree h y) where
-    -- the entry and the moved one are exchanged
-    exchanged : Exchanged (laid tree h x) (laid new c x) h c
-    exchanged = subst (λ t. Exchanged (laid tree h x) (laid t c x) h c) (sym (wrote ∙ ap (laid tree h) is)) (pulled tree held h x o.stands o.within c cn ne)
+  -- an entry that comes before all below the hole does not sink
+  stays_below : BeforeChildren before (laid tree h x) h → sinks_to before tree h x ≡ None
+  stays_below below = none_from (sinks_to before tree h x) (λ c is.
+      let told = sinks_yes c (sym is) in
+      let up : before (entry_in (laid tree h x) h) (entry_in (laid tree h x) c) ≡ true = below c told.0.low told.0.within told.0.child in
+      let one = laws.one (entry_in (laid tree h x) h) (entry_in (laid tree h x) c) (apart (laid tree h x) held o.stands h c o.within told.0.within (λ e. omega (arith, told.0.low, told.0.child))) in
+      let down = told.1 in absurd cc)
 
-    -- a turn of `sift_up` moves the gap up
-    pub rises_again : true ≡ rises before tree h x → c ≡ parent h → BeforeChildren before (laid tree h x) h → Holed before held (laid new c x) c × BeforeChildren before (laid new c x) c
-    rises_again test up below =
-        let told = rises_yes test in
-        risen before laws (laid tree h x) (laid new c x) held h c exchanged o cn told.0 up
-        (ap (λ n. before (entry_in (laid tree h x) h) (entry_in (laid tree h x) n)) up ∙ told.1) below
+  -- an entry that comes after the one above the hole does not rise
+  stays_above : AfterParent before (laid tree h x) h → rises before tree h x ≡ false
+  stays_above above = false_from_ne_true (rises before tree h x) (λ is.
+      let told = rises_yes (sym is) in
+      let down = above told.0 in
+      let one = laws.one (entry_in (laid tree h x) (parent h)) (entry_in (laid tree h x) h) (apart (laid tree h x) held o.stands (parent h) h (omega (arith, o.within)) o.within (λ e. omega (arith, told.0))) in
+      let up = told.1 in absurd cc)
 
-    -- a turn of `sift_down` moves the gap down
-    pub sinks_again : Some c ≡ sinks_to before tree h x → Holed before held (laid new c x) c × AfterParent before (laid new c x) c
-    sinks_again test =
-        let told = sinks_yes c test in
-        sunk before laws (laid tree h x) (laid new c x) held h c exchanged o cn told.0.low told.0.child told.1 told.0.first
-
-  -- the child to sink to is another place of the tree
-  pub sinks_within : (c : ℕ) → Some c ≡ sinks_to before tree h x → (c < tree.len) × (c ≡ h → ⊥) × (h < c)
-  sinks_within c test = let best = (sinks_yes c test).0 in (best.within, λ e. omega (arith, best.low, best.child), omega (arith, best.low, best.child))
+  -- the next place is the one above or the first child
+  next_is : (o : Option ℕ) → o ≡ next_place before tree h x → ((rises before tree h x ≡ true) × (o ≡ Some (parent h))) ⊎ ((rises before tree h x ≡ false) × (o ≡ sinks_to before tree h x))
+  next_is o is = ⊎_elim
+      (λ (yes' : rises before tree h x ≡ true). inl (yes', is ∙ cond-true (rises before tree h x) (Some (parent h)) (sinks_to before tree h x) yes'))
+      (λ (no' : rises before tree h x ≡ false). inr (no', is ∙ cond-false (rises before tree h x) (Some (parent h)) (sinks_to before tree h x) no'))
+      (cases_Bool (rises before tree h x))
 
   -- a tree is in order once the moved entry is written where it fits
-  rests : (new : Tree) → new ≡ laid tree h x → BeforeChildren before (laid tree h x) h → AfterParent before (laid tree h x) h → (held_in new ≡ held) × Sound before new
-  rests new wrote below above = subst (λ t. (held_in t ≡ held) × Sound before t) (sym wrote) (held_is (laid tree h x) held o.stands, sound before laws (laid tree h x) held h o below above)
+  pub ends : (new : Tree) → new ≡ laid tree h x → None ≡ next_place before tree h x → (held_in new ≡ held) × Sound before new
+  ends new wrote is = ⊎_elim
+      (λ (up : (rises before tree h x ≡ true) × (◌≡◌ {A = Option ℕ} None (Some (parent h)))). absurd (some_none (parent h) (sym up.1)))
+      (λ (down : (rises before tree h x ≡ false) × (None ≡ sinks_to before tree h x)).
+      subst (λ t. (held_in t ≡ held) × Sound before t) (sym wrote) (held_is (laid tree h x) held o.stands, sound before laws (laid tree h x) held h o (rests_below down.1) (rests_above (sym down.0))))
+      (next_is None is)
 
-  -- so it is where the entry does not rise
-  pub rises_ends : (new : Tree) → new ≡ laid tree h x → BeforeChildren before (laid tree h x) h → false ≡ rises before tree h x → (held_in new ≡ held) × Sound before new
-  rises_ends new wrote below test = rests new wrote below (rests_above test)
+-- the gap moves on to a place, and fewer turns are left
+pub record Turned (before : Entry → Entry → Bool) (held : Held) (tree : Tree) (h : ℕ) (new : Tree) (c : ℕ) (x : Entry) : Type 0 where
+  pub again : Holed before held (laid new c x) c
+  pub fewer : turns_left before new c x < turns_left before tree h x
 
-  -- and where it does not sink
-  pub sinks_ends : (new : Tree) → new ≡ laid tree h x → AfterParent before (laid tree h x) h → None ≡ sinks_to before tree h x → (held_in new ≡ held) × Sound before new
-  sinks_ends new wrote above test = rests new wrote (rests_below test) above
+module _ (before : Entry → Entry → Bool) (laws : Lawful before) (tree : Tree) (held : Held) (h : ℕ) (x : Entry) (o : Holed before held (laid tree h x) h) (c : ℕ) (is : Some c ≡ next_place before tree h x) where
+  -- the next place is another place of the tree
+  next_within : (c < tree.len) × (c ≡ h → ⊥)
+  next_within = ⊎_elim
+      (λ (up : (rises before tree h x ≡ true) × (Some c ≡ Some (parent h))).
+      let low = (rises_yes before laws tree held h x o (sym up.0)).0 in
+      let same : c ≡ parent h = let told = up.1 in cc in (omega (arith, o.within), λ e. omega arith))
+      (λ (down : (rises before tree h x ≡ false) × (Some c ≡ sinks_to before tree h x)).
+      let best = (sinks_yes before laws tree held h x o c down.1).0 in (best.within, λ e. omega (arith, best.low, best.child)))
+      (next_is before laws tree held h x o (Some c) is)
+
+  -- so what stands there has a task number
+  pub next_range : (y : Entry) → y ≡ entry_in tree c → in_range y.number ≡ true
+  next_range y its = pulled_range before laws tree held h x o c next_within.0 next_within.1 y its
+
+  -- a turn exchanges it with the moved entry
+  pub turned_over : (y : Entry) → y ≡ entry_in tree c → (new : Tree) → new ≡ laid tree h y → Turned before held tree h new c x
+  turned_over y its new wrote =
+      let ex : Exchanged (laid tree h x) (laid new c x) h c =
+      subst (λ t. Exchanged (laid tree h x) (laid t c x) h c) (sym (wrote ∙ ap (laid tree h) its)) (pulled tree held h x o.stands o.within c next_within.0 next_within.1) in
+      let len : new.len ≡ tree.len = ap (λ t. t.len) wrote in
+      ⊎_elim
+      (λ (up : (rises before tree h x ≡ true) × (Some c ≡ Some (parent h))).
+      let told = rises_yes before laws tree held h x o (sym up.0) in
+      let same : c ≡ parent h = let parts = up.1 in cc in
+      let moved = risen before laws (laid tree h x) (laid new c x) held h c ex o next_within.0 told.0 same (subst (λ n. before (entry_in (laid tree h x) h) (entry_in (laid tree h x) n) ≡ true) (sym same) told.1) (leads_below before laws tree held h x o (sym up.0)) in
+      record {
+        again = moved.0;
+        fewer = fewer_up (rises before tree h x) (rises before new c x) (sinks_to before tree h x) (sinks_to before new c x) h c tree.len new.len up.0 (stays_below before laws new held c x moved.0 moved.1) (omega (arith, told.0));
+      })
+      (λ (down : (rises before tree h x ≡ false) × (Some c ≡ sinks_to before tree h x)).
+      let told = sinks_yes before laws tree held h x o c down.1 in
+      let moved = sunk before laws (laid tree h x) (laid new c x) held h c ex o next_within.0 told.0.low told.0.child told.1 told.0.first in
+      record {
+        again = moved.0;
+        fewer = fewer_down (rises before tree h x) (rises before new c x) (sinks_to before tree h x) (sinks_to before new c x) h c tree.len new.len down.0 (sym down.1) (stays_above before laws new held c x moved.0 moved.1) (omega (arith, told.0.low, told.0.child)) next_within.0 len;
+      })
+      (next_is before laws tree held h x o (Some c) is)

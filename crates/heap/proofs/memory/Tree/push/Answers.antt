@@ -1,0 +1,9 @@
+use Rattle.std.proofs.Common.{◌∙◌}
+use Rattle.heap.proofs.Entering.{entering}
+use Rattle.heap.proofs.memory.Tree.push.Goals as goal
+
+pub settle-requires : goal.settle-requires
+settle-requires g c = (entering g.O.TieOrder.before c.args.self.now c.requires.memory c.args.e c.requires.free).holed
+
+pub returns-clause-list : goal.returns-clause-list
+returns-clause-list g c = c.settle.ensures.list ∙ (entering g.O.TieOrder.before c.args.self.now c.requires.memory c.args.e c.requires.free).list
