@@ -6,7 +6,10 @@
 pub mod admission;
 pub mod changes;
 pub mod jobs;
+mod limits;
 pub mod phases;
 pub mod refusals;
+pub mod task_at;
 pub mod tasks;
+mod ticks;
 pub mod withdrawals;
