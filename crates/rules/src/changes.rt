@@ -31,25 +31,6 @@ fn check_changeable(task: Task) -> Result<(), Refusal>
     Ok(())
 }
 
-// Ticks gained by a later deadline, rounded down; none by an earlier one.
-fn postponed_by(task: Task, deadline: u64) -> u64
-    requires rate { task.rate ≤ 1000 }
-    requires later { deadline ≤ task.deadline + 1000000 }
-    ensures value { result ≡ postponed_by task deadline }
-    ensures few { result ≤ 1000000 }
-{
-    whole_ticks(task.rate, deadline.saturating_sub(task.deadline))
-}
-
-// Ticks lost by an earlier deadline, rounded up; none by a later one.
-fn advanced_by(task: Task, deadline: u64) -> u64
-    requires rate { task.rate ≤ 1000 }
-    requires earlier { task.deadline ≤ deadline + 1000000 }
-    ensures { result ≡ advanced_by task deadline }
-{
-    ticks_to_cover(task.rate, task.deadline.saturating_sub(deadline))
-}
-
 // A task after an event, with `left` ticks left.
 fn moved_by(event: Event, left: u64, task: Task) -> Task
     ensures { result ≡ moved_by event left task }
@@ -76,20 +57,14 @@ impl TaskAt {
         ensures value { result ≡ raised_by self.clock self.task rate }
         ensures few { result ≤ 1000000 }
     {
-        whole_ticks(
-            rate.saturating_sub(self.task.rate),
-            self.task.deadline - self.clock,
-        )
+        whole_ticks(rate.saturating_sub(self.task.rate), self.until_deadline())
     }
 
     // Ticks lost by a lower rate until the deadline, rounded up; none by a higher one.
     fn lowered_by(self, rate: u32) -> u64
         ensures { result ≡ lowered_by self.clock self.task rate }
     {
-        ticks_to_cover(
-            self.task.rate.saturating_sub(rate),
-            self.task.deadline - self.clock,
-        )
+        ticks_to_cover(self.task.rate.saturating_sub(rate), self.until_deadline())
     }
 
     // The task with another rate.
@@ -117,6 +92,23 @@ impl TaskAt {
         })
     }
 
+    // Ticks gained by a later deadline, rounded down; none by an earlier one.
+    fn postponed_by(self, deadline: u64) -> u64
+        requires { deadline ≤ self.task.deadline + 1000000 }
+        ensures value { result ≡ postponed_by self.task deadline }
+        ensures few { result ≤ 1000000 }
+    {
+        whole_ticks(self.task.rate, deadline.saturating_sub(self.task.deadline))
+    }
+
+    // Ticks lost by an earlier deadline, rounded up; none by a later one.
+    fn advanced_by(self, deadline: u64) -> u64
+        requires { self.task.deadline ≤ deadline + 1000000 }
+        ensures { result ≡ advanced_by self.task deadline }
+    {
+        ticks_to_cover(self.task.rate, self.task.deadline.saturating_sub(deadline))
+    }
+
     // The task with another period, and so with another deadline of its current job.
     fn change_period(self, period: u32) -> Result<Task, Refusal>
         requires { self.clock ≤ 2 ^ 40 }
@@ -130,14 +122,14 @@ impl TaskAt {
         if deadline < task.deadline && 1000 * task.left > self.share() {
             return Err(Refusal::BehindRate);
         }
-        let lost = advanced_by(task, deadline);
+        let lost = self.advanced_by(deadline);
         if deadline <= self.clock || lost > task.left {
             return Err(Refusal::TooFewTicks);
         }
         Ok(Task {
             period,
             deadline,
-            left: task.left + postponed_by(task, deadline) - lost,
+            left: task.left + self.postponed_by(deadline) - lost,
             ..task
         })
     }
@@ -149,7 +141,10 @@ impl TaskAt {
         if self.task.phase != Phase::Waiting {
             return Err(Refusal::NotWaiting);
         }
-        let left = self.task.left.min(self.share() / 1000);
+        let left = self
+            .task
+            .left
+            .min(whole_ticks(self.task.rate, self.until_deadline()));
         Ok(moved_by(Event::Wake, left, self.task))
     }
 

@@ -4,12 +4,13 @@ ghost use Rattle.rules.specs.Jobs.{Chargeable, after_deadline, charged, due_at, 
 
 use crate::phases::Event;
 use crate::tasks::Task;
+use crate::ticks::whole_ticks;
 
 // The ticks of a job: rate times period in thousandths, rounded down.
 pub fn grant(rate: u32, period: u32) -> u64
     ensures { result ≡ grant_of rate period }
 {
-    rate as u64 * period as u64 / 1000
+    whole_ticks(rate, period as u64)
 }
 
 // A task at its deadline: a leaving one goes, any other gets its next job.

@@ -3,6 +3,7 @@ ghost use Rattle.std.specs.Prelude.{◌≡◌, ◌+◌, ◌*◌, ◌≤◌, Err,
 ghost use Rattle.rules.specs.Admission.{within};
 ghost use Rattle.rules.specs.declared.refusals.Refusal.TheVariants.{JobTooSmall, PeriodOutOfRange, RateOutOfRange, RatesExceeded};
 
+use crate::jobs::grant;
 use crate::refusals::Refusal;
 
 // The whole processor, in thousandths.
@@ -32,7 +33,7 @@ pub(crate) fn check_period(period: u32) -> Result<(), Refusal>
 pub(crate) fn check_worth(rate: u32, period: u32) -> Result<(), Refusal>
     ensures { result ≡ cond (nat_lt (rate * period) 1000) (Err JobTooSmall) (Ok tt) }
 {
-    if rate as u64 * (period as u64) < 1000 {
+    if grant(rate, period) == 0 {
         return Err(Refusal::JobTooSmall);
     }
     Ok(())

@@ -1,5 +1,5 @@
 // A task at a clock at which all is kept of it that is kept between calls.
-ghost use Rattle.std.specs.Prelude.{◌≡◌};
+ghost use Rattle.std.specs.Prelude.{◌≡◌, ◌-◌};
 ghost use Rattle.rules.specs.Sound.{Sound};
 
 use crate::tasks::Task;
@@ -14,11 +14,17 @@ pub struct TaskAt {
 impl TaskAt {
     ghost use Rattle.rules.specs.Changes.{may_lower, share};
 
+    pub(crate) fn until_deadline(self) -> u64
+        ensures { result ≡ self.task.deadline - self.clock }
+    {
+        self.task.deadline - self.clock
+    }
+
     // What the rate gives until the deadline, in thousandths.
     pub(crate) fn share(self) -> u64
         ensures { result ≡ share self.clock self.task }
     {
-        self.task.rate as u64 * (self.task.deadline - self.clock)
+        self.task.rate as u64 * self.until_deadline()
     }
 
     // A job that has run no tick, or is not ahead of its rate, may be lowered.

@@ -7,7 +7,7 @@ use crate::refusals::Refusal;
 use crate::task_at::TaskAt;
 use crate::tasks::Task;
 
-// When a task that was withdrawn goes.
+// When a task that was withdrawn goes. Not an `Option<u64>`: `None` for "at once" would say less than its name.
 #[derive(Clone, Copy)]
 pub enum Departure {
     AtOnce,
