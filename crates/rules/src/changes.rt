@@ -141,11 +141,8 @@ impl TaskAt {
         if self.task.phase != Phase::Waiting {
             return Err(Refusal::NotWaiting);
         }
-        let left = self
-            .task
-            .left
-            .min(whole_ticks(self.task.rate, self.until_deadline()));
-        Ok(moved_by(Event::Wake, left, self.task))
+        let given = whole_ticks(self.task.rate, self.until_deadline());
+        Ok(moved_by(Event::Wake, self.task.left.min(given), self.task))
     }
 
     // What comes of a change; `rates` are the rates in force of all tasks, this one included.
