@@ -1,5 +1,5 @@
 -- A change keeps a task sound, its number, and the rates within the processor.
-use Rattle.std.proofs.Common.{◌≡◌, ℕ, ◌+◌, ◌-◌, ◌*◌, ◌/◌, ◌<◌, ◌≤◌, min, Some, None, Ok, Option, sym, refl, ap, ◌∙◌, subst, add-mul, mul-add, arith}
+use Rattle.std.proofs.Common.{◌≡◌, ℕ, ◌+◌, ◌-◌, ◌*◌, ◌/◌, ◌<◌, ◌≤◌, min, Some, None, Ok, Option, sym, ap, ◌∙◌, subst, add-mul, mul-add, arith, rules}
 use Rattle.rules.proofs.Admitting.{unless_ok}
 use Rattle.rules.specs.Changes.{advanced_by, becomes, changed, deadline_at, lowered_by, moved_by, share, why_not_period, why_not_changed, why_not_rate, why_not_ready, why_not_wake, with_period, with_rate, woken}
 use Rattle.rules.specs.Refusals.{unless}
@@ -32,8 +32,7 @@ pub record RateFits (T rates : ℕ) (t : Task) (rate : ℕ) : Type 0 where
   pub enough : lowered_by T t rate ≤ t.left
 
 pub rate_fits : (T rates : ℕ) (t : Task) (rate : ℕ) → why_not_rate T rates t rate ≡ None → RateFits T rates t rate
-rate_fits T rates t rate is =
-    record { low = grind (arith, nat_tests); high = grind (arith, nat_tests); worth = grind (arith, nat_tests); shared = grind (arith, nat_tests); enough = grind (arith, nat_tests) }
+rate_fits T rates t rate is = grind (arith, nat_tests)
 
 rate_kept : (T rates : ℕ) (t : Task) (rate : ℕ) → Sound T t → RateFits T rates t rate → Kept T rates t (with_rate T t rate)
 rate_kept T rates t rate s f =
@@ -42,21 +41,7 @@ rate_kept T rates t rate s f =
     let sums : rate + (R - rate) ≡ R + (rate - R) = omega arith in
     let products : rate * span + (R - rate) * span ≡ R * span + (rate - R) * span =
     sym (add-mul rate (R - rate) span) ∙ (ap (λ n. n * span) sums ∙ add-mul R (rate - R) span) in
-    record {
-      sound = record {
-        rate_low = f.low;
-        rate_high = f.high;
-        period_low = s.period_low;
-        period_high = s.period_high;
-        worth = f.worth;
-        begun = s.begun;
-        coming = s.coming;
-        spans = s.spans;
-        bounded = omega (arith, products, s.bounded, f.enough);
-      };
-      number = refl;
-      shared = f.shared;
-    }
+    search rules
 
 pub record PeriodFits (T : ℕ) (t : Task) (period : ℕ) : Type 0 where
   pub low : 1 ≤ period
@@ -66,8 +51,7 @@ pub record PeriodFits (T : ℕ) (t : Task) (period : ℕ) : Type 0 where
   pub enough : advanced_by t (deadline_at t period) ≤ t.left
 
 pub period_fits : (T : ℕ) (t : Task) (period : ℕ) → why_not_period T t period ≡ None → PeriodFits T t period
-period_fits T t period is =
-    record { low = grind (arith, nat_tests); high = grind (arith, nat_tests); worth = grind (arith, nat_tests); after = grind (arith, nat_tests); enough = grind (arith, nat_tests) }
+period_fits T t period is = grind (arith, nat_tests)
 
 period_kept : (T rates : ℕ) (t : Task) (period : ℕ) → Sound T t → rates ≤ 1000 → t.rate ≤ rates → PeriodFits T t period → Kept T rates t (with_period t period)
 period_kept T rates t period s few part f =
@@ -77,40 +61,11 @@ period_kept T rates t period s few part f =
     let spans : (E - T) + (D - E) ≡ (D - T) + (E - D) = omega (arith, s.coming, f.after) in
     let products : R * (E - T) + R * (D - E) ≡ R * (D - T) + R * (E - D) =
     sym (mul-add R (E - T) (D - E)) ∙ (ap (λ n. R * n) spans ∙ mul-add R (D - T) (E - D)) in
-    record {
-      sound = record {
-        rate_low = s.rate_low;
-        rate_high = s.rate_high;
-        period_low = f.low;
-        period_high = f.high;
-        worth = f.worth;
-        begun = s.begun;
-        coming = f.after;
-        spans = refl;
-        bounded = omega (arith, products, s.bounded, f.enough);
-      };
-      number = refl;
-      shared = omega arith;
-    }
+    search rules
 
 -- fewer ticks left, and another phase
 moved_kept : (T rates : ℕ) (t : Task) (event : Event) (left : ℕ) → Sound T t → rates ≤ 1000 → t.rate ≤ rates → left ≤ t.left → Kept T rates t (moved_by event left t)
-moved_kept T rates t event left s few part less =
-    record {
-      sound = record {
-        rate_low = s.rate_low;
-        rate_high = s.rate_high;
-        period_low = s.period_low;
-        period_high = s.period_high;
-        worth = s.worth;
-        begun = s.begun;
-        coming = s.coming;
-        spans = s.spans;
-        bounded = omega (arith, s.bounded);
-      };
-      number = refl;
-      shared = omega arith;
-    }
+moved_kept T rates t event left s few part less = search rules
 
 pub change_kept : (T rates : ℕ) (t : Task) (change : Change) (u : Task) → Sound T t → rates ≤ 1000 → t.rate ≤ rates → changed T rates t change ≡ Ok u → Kept T rates t u
 change_kept T rates t (to_rate rate) u s few part is =
@@ -131,30 +86,11 @@ change_kept T rates t finish u s few part is =
 
 -- a change by why it may not be and by what the task becomes
 pub changed_split : (T rates : ℕ) (t : Task) (change : Change) → changed T rates t change ≡ unless (why_not_changed T rates t change) (becomes T t change)
-changed_split T rates t (to_rate rate) = refl
-changed_split T rates t (to_period period) = refl
-changed_split T rates t wait = refl
-changed_split T rates t wake = refl
-changed_split T rates t finish = refl
+changed_split T rates t change = grind arith
 
 -- a task that is marked as leaving keeps its numbers
 marked_kept : (T rates : ℕ) (t : Task) → Sound T t → rates ≤ 1000 → t.rate ≤ rates → Kept T rates t (marked t)
-marked_kept T rates t s few part =
-    record {
-      sound = record {
-        rate_low = s.rate_low;
-        rate_high = s.rate_high;
-        period_low = s.period_low;
-        period_high = s.period_high;
-        worth = s.worth;
-        begun = s.begun;
-        coming = s.coming;
-        spans = s.spans;
-        bounded = s.bounded;
-      };
-      number = refl;
-      shared = omega arith;
-    }
+marked_kept T rates t s few part = search rules
 
 pub withdrawn_kept : (T rates : ℕ) (t : Task) (slot : Option Task) → Sound T t → rates ≤ 1000 → t.rate ≤ rates → withdrawn T t ≡ Ok slot → KeptSlot T rates t slot
 withdrawn_kept T rates t slot s few part is =
