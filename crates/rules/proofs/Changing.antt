@@ -1,16 +1,14 @@
 -- A change keeps a task sound, its number, and the rates within the processor.
-use Rattle.std.proofs.Common.{◌≡◌, ℕ, ◌+◌, ◌-◌, ◌*◌, ◌/◌, ◌<◌, ◌≤◌, min, Some, None, Ok, Option, sym, ap, ◌∙◌, subst, add-mul, mul-add, arith, rules}
-use Rattle.rules.proofs.Admitting.{unless_ok}
-use Rattle.rules.specs.Changes.{advanced_by, becomes, changed, deadline_at, lowered_by, moved_by, share, why_not_period, why_not_changed, why_not_rate, why_not_ready, why_not_wake, with_period, with_rate, woken}
+use Rattle.std.proofs.Common.{◌≡◌, ℕ, ◌+◌, ◌-◌, ◌*◌, ◌/◌, ◌<◌, ◌≤◌, min, Some, None, Ok, Option, ap, add-mul, mul-add, arith, rules}
+use Rattle.rules.specs.Changes.{advanced_by, becomes, changed, deadline_at, lowered_by, moved_by, share, why_not_period, why_not_changed, why_not_rate, with_period, with_rate}
 use Rattle.rules.specs.Refusals.{unless}
 use Rattle.rules.specs.Sound.{Sound}
-use Rattle.rules.specs.Withdrawals.{goes_at_once, marked, why_not_withdrawn, withdrawn, withdrawn_slot}
+use Rattle.rules.specs.Withdrawals.{marked, withdrawn}
 use Rattle.rules.specs.declared.changes.Change.{Change}
 use Rattle.rules.specs.declared.changes.Change.TheVariants.{Finish as finish, Period as to_period, Rate as to_rate, Wait as wait, Wake as wake}
 use Rattle.rules.specs.declared.phases.Event.{Event}
 use Rattle.rules.specs.declared.phases.Event.TheVariants.{Finish, Wait, Wake}
 use Rattle.rules.specs.declared.tasks.Task.{Task}
-use Rattle.std.proofs.lemmas.Bool.{cond_both}
 use Rattle.std.proofs.lemmas.Bool.Decides.{nat_tests}
 
 pub record Kept (T rates : ℕ) (t u : Task) : Type 0 where
@@ -39,8 +37,7 @@ rate_kept T rates t rate s f =
     let R = t.rate in
     let span = t.deadline - T in
     let sums : rate + (R - rate) ≡ R + (rate - R) = omega arith in
-    let products : rate * span + (R - rate) * span ≡ R * span + (rate - R) * span =
-    sym (add-mul rate (R - rate) span) ∙ (ap (λ n. n * span) sums ∙ add-mul R (rate - R) span) in
+    let products = simp add-mul at (ap (λ n. n * span) sums) in
     search rules
 
 pub record PeriodFits (T : ℕ) (t : Task) (period : ℕ) : Type 0 where
@@ -59,8 +56,7 @@ period_kept T rates t period s few part f =
     let D = t.deadline in
     let E = deadline_at t period in
     let spans : (E - T) + (D - E) ≡ (D - T) + (E - D) = omega (arith, s.coming, f.after) in
-    let products : R * (E - T) + R * (D - E) ≡ R * (D - T) + R * (E - D) =
-    sym (mul-add R (E - T) (D - E)) ∙ (ap (λ n. R * n) spans ∙ mul-add R (D - T) (E - D)) in
+    let products = simp mul-add at (ap (λ n. R * n) spans) in
     search rules
 
 -- fewer ticks left, and another phase
@@ -69,20 +65,20 @@ moved_kept T rates t event left s few part less = search rules
 
 pub change_kept : (T rates : ℕ) (t : Task) (change : Change) (u : Task) → Sound T t → rates ≤ 1000 → t.rate ≤ rates → changed T rates t change ≡ Ok u → Kept T rates t u
 change_kept T rates t (to_rate rate) u s few part is =
-    let p = unless_ok (why_not_rate T rates t rate) (with_rate T t rate) u is in
-    subst (Kept T rates t) p.1 (rate_kept T rates t rate s (rate_fits T rates t rate p.0))
+    let k = rate_kept T rates t rate s in
+    grind (arith, rate_fits)
 change_kept T rates t (to_period period) u s few part is =
-    let p = unless_ok (why_not_period T t period) (with_period t period) u is in
-    subst (Kept T rates t) p.1 (period_kept T rates t period s few part (period_fits T t period p.0))
+    let k = period_kept T rates t period s few part in
+    grind (arith, period_fits)
 change_kept T rates t wait u s few part is =
-    let p = unless_ok (why_not_ready t) (moved_by Wait t.left t) u is in
-    subst (Kept T rates t) p.1 (moved_kept T rates t Wait t.left s few part (omega arith))
+    let k = moved_kept T rates t Wait t.left s few part (omega arith) in
+    grind arith
 change_kept T rates t wake u s few part is =
-    let p = unless_ok (why_not_wake t) (woken T t) u is in
-    subst (Kept T rates t) p.1 (moved_kept T rates t Wake (min t.left (share T t / 1000)) s few part (omega arith))
+    let k = moved_kept T rates t Wake (min t.left (share T t / 1000)) s few part (omega arith) in
+    grind arith
 change_kept T rates t finish u s few part is =
-    let p = unless_ok (why_not_ready t) (moved_by Finish 0 t) u is in
-    subst (Kept T rates t) p.1 (moved_kept T rates t Finish 0 s few part (omega arith))
+    let k = moved_kept T rates t Finish 0 s few part (omega arith) in
+    grind arith
 
 -- a change by why it may not be and by what the task becomes
 pub changed_split : (T rates : ℕ) (t : Task) (change : Change) → changed T rates t change ≡ unless (why_not_changed T rates t change) (becomes T t change)
@@ -93,6 +89,4 @@ marked_kept : (T rates : ℕ) (t : Task) → Sound T t → rates ≤ 1000 → t.
 marked_kept T rates t s few part = search rules
 
 pub withdrawn_kept : (T rates : ℕ) (t : Task) (slot : Option Task) → Sound T t → rates ≤ 1000 → t.rate ≤ rates → withdrawn T t ≡ Ok slot → KeptSlot T rates t slot
-withdrawn_kept T rates t slot s few part is =
-    let p = unless_ok (why_not_withdrawn t) (withdrawn_slot T t) slot is in
-    subst (KeptSlot T rates t) p.1 (cond_both (goes_at_once T t) None (Some (marked t)) (KeptSlot T rates t) (λ _. tt) (λ _. marked_kept T rates t s few part))
+withdrawn_kept T rates t slot s few part is = grind (arith, marked_kept)

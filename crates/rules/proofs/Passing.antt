@@ -1,9 +1,8 @@
 -- A sound task while time passes: no later than its deadline it is sound but for that, and a deadline that has come makes it sound again.
-use Rattle.std.proofs.Common.{◌≡◌, ℕ, ◌+◌, ◌-◌, ◌*◌, ◌≤◌, eqb, Some, None, refl, ap, ◌∙◌, subst, mul-le-mul_right, mul-add, arith, rules}
-use Rattle.rules.specs.Jobs.{after_deadline, charged, due_at, next_job}
+use Rattle.std.proofs.Common.{◌≡◌, ℕ, ◌+◌, ◌-◌, ◌*◌, ◌≤◌, Some, ap, ◌∙◌, mul-le-mul_right, mul-add, arith, rules}
+use Rattle.rules.specs.Jobs.{charged, due_at, next_job}
 use Rattle.rules.specs.Sound.{Sound, SoundSlot}
 use Rattle.rules.specs.declared.tasks.Task.{Task}
-use Rattle.std.proofs.lemmas.Bool.{cond_both, eqb-false, eqb-true}
 
 -- as a sound task, but the deadline may have come
 pub record Passed (T : ℕ) (t : Task) : Type 0 where
@@ -30,9 +29,7 @@ passes T c t s le =
 -- a deadline that has come is dealt with
 pub due_sound : (T : ℕ) (t : Task) → Passed T t → SoundSlot T (due_at T (Some t))
 due_sound T t p =
-    cond_both (eqb t.deadline T) (after_deadline t) (Some t) (SoundSlot T)
-    (λ e. cond_both t.leaving None (Some (next_job t)) (SoundSlot T) (λ _. tt) (λ _. next (eqb-true t.deadline T e)))
-    (λ e. stay (eqb-false t.deadline T e))
+    grind (arith, next, stay)
   where
     next : t.deadline ≡ T → Sound T (next_job t)
     next now' =
