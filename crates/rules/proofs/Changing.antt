@@ -1,13 +1,12 @@
 -- A change keeps a task sound, its number, and the rates within the processor.
-use Rattle.std.proofs.Common.{◌≡◌, ℕ, ◌+◌, ◌-◌, ◌*◌, ◌/◌, ◌<◌, ◌≤◌, min, Some, None, Ok, Option, ap, add-mul, mul-add, arith, rules}
-use Rattle.rules.specs.Changes.{advanced_by, becomes, changed, deadline_at, lowered_by, moved_by, share, why_not_period, why_not_changed, why_not_rate, with_period, with_rate}
+use Rattle.std.proofs.Common.{◌≡◌, ℕ, ◌+◌, ◌-◌, ◌*◌, ◌<◌, ◌≤◌, Some, None, Ok, Option, ap, add-mul, mul-add, arith, rules}
+use Rattle.rules.specs.Changes.{advanced_by, becomes, changed, deadline_at, lowered_by, moved_by, why_not_period, why_not_changed, why_not_rate, with_period, with_rate}
 use Rattle.rules.specs.Refusals.{unless}
 use Rattle.rules.specs.Sound.{Sound}
 use Rattle.rules.specs.Withdrawals.{marked, withdrawn}
 use Rattle.rules.specs.declared.changes.Change.{Change}
 use Rattle.rules.specs.declared.changes.Change.TheVariants.{Finish as finish, Period as to_period, Rate as to_rate, Wait as wait, Wake as wake}
 use Rattle.rules.specs.declared.phases.Event.{Event}
-use Rattle.rules.specs.declared.phases.Event.TheVariants.{Finish, Wait, Wake}
 use Rattle.rules.specs.declared.tasks.Task.{Task}
 use Rattle.std.proofs.lemmas.Bool.Decides.{nat_tests}
 
@@ -55,7 +54,7 @@ period_kept T rates t period s few part f =
     let R = t.rate in
     let D = t.deadline in
     let E = deadline_at t period in
-    let spans : (E - T) + (D - E) ≡ (D - T) + (E - D) = omega (arith, s.coming, f.after) in
+    let spans : (E - T) + (D - E) ≡ (D - T) + (E - D) = omega arith in
     let products = simp mul-add at (ap (λ n. R * n) spans) in
     search rules
 
@@ -64,21 +63,11 @@ moved_kept : (T rates : ℕ) (t : Task) (event : Event) (left : ℕ) → Sound T
 moved_kept T rates t event left s few part less = search rules
 
 pub change_kept : (T rates : ℕ) (t : Task) (change : Change) (u : Task) → Sound T t → rates ≤ 1000 → t.rate ≤ rates → changed T rates t change ≡ Ok u → Kept T rates t u
-change_kept T rates t (to_rate rate) u s few part is =
-    let k = rate_kept T rates t rate s in
-    grind (arith, rate_fits)
-change_kept T rates t (to_period period) u s few part is =
-    let k = period_kept T rates t period s few part in
-    grind (arith, period_fits)
-change_kept T rates t wait u s few part is =
-    let k = moved_kept T rates t Wait t.left s few part (omega arith) in
-    grind arith
-change_kept T rates t wake u s few part is =
-    let k = moved_kept T rates t Wake (min t.left (share T t / 1000)) s few part (omega arith) in
-    grind arith
-change_kept T rates t finish u s few part is =
-    let k = moved_kept T rates t Finish 0 s few part (omega arith) in
-    grind arith
+change_kept T rates t (to_rate rate) u s few part is = grind (arith, rate_kept, rate_fits)
+change_kept T rates t (to_period period) u s few part is = grind (arith, period_kept, period_fits)
+change_kept T rates t wait u s few part is = grind (arith, moved_kept)
+change_kept T rates t wake u s few part is = grind (arith, moved_kept)
+change_kept T rates t finish u s few part is = grind (arith, moved_kept)
 
 -- a change by why it may not be and by what the task becomes
 pub changed_split : (T rates : ℕ) (t : Task) (change : Change) → changed T rates t change ≡ unless (why_not_changed T rates t change) (becomes T t change)
