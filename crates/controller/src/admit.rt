@@ -2,7 +2,7 @@
 ghost use Rattle.std.specs.Prelude.{◌≡◌, ◌≤◌, map, length};
 ghost use Rattle.controller.specs.Admitting.{accepted, admission_to, with_task};
 ghost use Rattle.controller.specs.Tasks.{rates as rates_of};
-ghost use Rattle.controller.specs.Tied.{Tied};
+ghost use Rattle.controller.specs.Tied.{TiedTo};
 ghost use Rattle.rules.specs.Tasks.{entry_of};
 
 use crate::memory::TaskMemory;
@@ -11,22 +11,24 @@ use ready::ReadyList;
 use rules::admission::{Reservation, admit};
 use rules::refusals::Refusal;
 
-// Admits a task at the clock, its first job released then.
-pub(crate) fn enrol<L: ReadyList>(
-    clock: u64,
-    asked: Reservation,
-    memory: &mut TaskMemory,
-    list: &mut L,
-) -> Result<(), Refusal>
-    requires { Tied clock memory.old (L.ReadyList.held list.old) (L.ReadyList.ok list.old) }
-    ensures answer { result ≡ accepted (admission_to clock memory.old asked) }
-    ensures tasks { memory.new ≡ with_task (admission_to clock memory.old asked) memory.old }
-    ensures tied { Tied clock memory.new (L.ReadyList.held list.new) (L.ReadyList.ok list.new) }
-{
-    let taken = memory.task_at(asked.number).is_some();
-    let task = admit(clock, taken, memory.rates(), asked)?;
-    memory.store(list, task.number as usize - 1, Some(task));
-    Ok(())
+impl TaskMemory {
+    // Admits a task at the clock, its first job released then.
+    pub(crate) fn enrol<L: ReadyList>(
+        &mut self,
+        clock: u64,
+        asked: Reservation,
+        list: &mut L,
+    ) -> Result<(), Refusal>
+        requires { TiedTo L.ReadyList clock self.old list.old }
+        ensures answer { result ≡ accepted (admission_to clock self.old asked) }
+        ensures tasks { self.new ≡ with_task (admission_to clock self.old asked) self.old }
+        ensures tied { TiedTo L.ReadyList clock self.new list.new }
+    {
+        let taken = self.task_at(asked.number).is_some();
+        let task = admit(clock, taken, self.rates(), asked)?;
+        self.store(list, task.number as usize - 1, Some(task));
+        Ok(())
+    }
 }
 
 impl Resting {
@@ -37,12 +39,12 @@ impl Resting {
         memory: &mut TaskMemory,
         list: &mut L,
     ) -> Result<(), Refusal>
-        requires { Tied self.now memory.old (L.ReadyList.held list.old) (L.ReadyList.ok list.old) }
+        requires { TiedTo L.ReadyList self.now memory.old list.old }
         ensures answer { result ≡ accepted (admission_to self.now memory.old asked) }
         ensures tasks { memory.new ≡ with_task (admission_to self.now memory.old asked) memory.old }
         ensures list { L.ReadyList.held list.new ≡ map entry_of memory.new }
-        ensures tied { Tied self.now memory.new (L.ReadyList.held list.new) (L.ReadyList.ok list.new) }
+        ensures tied { TiedTo L.ReadyList self.now memory.new list.new }
     {
-        enrol(self.clock, asked, memory, list)
+        memory.enrol(self.clock, asked, list)
     }
 }

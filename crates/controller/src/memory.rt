@@ -5,7 +5,7 @@ ghost use Rattle.controller.specs.Tasks.{no_tasks, rates};
 ghost use Rattle.controller.specs.Turns.{nearest};
 
 use crate::states::LAST_TICK;
-use order::entries::is_task_number;
+use order::entries::slot_of;
 use rules::jobs::sooner;
 use rules::tasks::{Task, rate_of};
 use std::marker::Model;
@@ -38,10 +38,7 @@ impl TaskMemory {
     pub(crate) fn task_at(&self, number: u32) -> Option<Task>
         ensures { result ≡ task_at self.now number }
     {
-        if !is_task_number(number) {
-            return None;
-        }
-        self.slots[number as usize - 1]
+        self.slots[slot_of(number)?]
     }
 
     // The rates in force of all tasks, leaving ones included.

@@ -2,7 +2,7 @@
 ghost use Rattle.std.specs.Prelude.{◌≡◌, ◌^◌, ◌≤◌, map};
 ghost use Rattle.controller.specs.Settling.{Runner, charged_in, settled_tasks, settling};
 ghost use Rattle.controller.specs.Tasks.{Mirrors};
-ghost use Rattle.controller.specs.Tied.{AfterSettle, Open, Tied};
+ghost use Rattle.controller.specs.Tied.{AfterSettle, OpenOn, TiedTo};
 ghost use Rattle.rules.specs.Jobs.{due_at};
 ghost use Rattle.rules.specs.Tasks.{entry_of};
 
@@ -54,11 +54,11 @@ impl OpenTurn {
         memory: &mut TaskMemory,
         list: &mut L,
     ) -> Result<Resting, (OpenTurn, Refusal)>
-        requires { Open L.Order.TieOrder.before self memory.old (L.ReadyList.held list.old) (L.ReadyList.ok list.old) }
+        requires { OpenOn L.ReadyList L.Order.TieOrder.before self memory.old list.old }
         ensures answer { result ≡ settling self count }
         ensures tasks { memory.new ≡ settled_tasks self count memory.old }
         ensures list { L.ReadyList.held list.new ≡ map entry_of memory.new }
-        ensures tied { AfterSettle L.Order.TieOrder.before result memory.new (L.ReadyList.held list.new) (L.ReadyList.ok list.new) }
+        ensures tied { AfterSettle L.ReadyList L.Order.TieOrder.before result memory.new list.new }
     {
         if count > self.turn.length {
             return Err((self, Refusal::CountTooHigh));
@@ -72,11 +72,11 @@ impl OpenTurn {
 
     // Gives the turn back unused: it is settled with 0, which changes nothing and is never refused.
     pub fn give_up<L: ReadyList>(self, memory: &mut TaskMemory, list: &mut L) -> Resting
-        requires { Open L.Order.TieOrder.before self memory.old (L.ReadyList.held list.old) (L.ReadyList.ok list.old) }
+        requires { OpenOn L.ReadyList L.Order.TieOrder.before self memory.old list.old }
         ensures clock { result ≡ self.start }
         ensures tasks { memory.new ≡ memory.old }
         ensures list { L.ReadyList.held list.new ≡ map entry_of memory.new }
-        ensures tied { Tied result memory.new (L.ReadyList.held list.new) (L.ReadyList.ok list.new) }
+        ensures tied { TiedTo L.ReadyList result memory.new list.new }
     {
         match self.settle(0, memory, list) {
             Ok(rest) => rest,

@@ -1,7 +1,7 @@
 // The one writer of tasks: it keeps the table and the ready list together.
 ghost use Rattle.std.specs.Prelude.{◌≡◌, ◌+◌, ◌-◌, ◌<◌, true, slice_set};
 ghost use Rattle.controller.specs.Tasks.{Fits, InSlot, Mirrors, no_tasks};
-ghost use Rattle.controller.specs.Tied.{Tied};
+ghost use Rattle.controller.specs.Tied.{TiedTo};
 ghost use Rattle.order.specs.Orders.{in_range};
 ghost use Rattle.ready.specs.Held.{entry_at};
 ghost use Rattle.rules.specs.Tasks.{entry_of};
@@ -72,7 +72,7 @@ impl TaskMemory {
     // Leaves no task and an empty list, whatever the memory held before.
     pub(crate) fn clear<L: ReadyList>(&mut self, list: &mut L)
         ensures tasks { self.new ≡ no_tasks }
-        ensures tied { Tied 0 self.new (L.ReadyList.held list.new) (L.ReadyList.ok list.new) }
+        ensures tied { TiedTo L.ReadyList 0 self.new list.new }
     {
         self.slots = [None; 64];
         list.empty();
