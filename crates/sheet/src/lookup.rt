@@ -7,7 +7,7 @@ use crate::records::{Record, RecordFault};
 use crate::walk::Records;
 
 // Where the name of a record stands, if it is a task of that name.
-fn name_place(candidate: Record, name: &[u8]) -> Option<usize>
+fn name_place(candidate: Record<'_>, name: &[u8]) -> Option<usize>
     ensures { result ≡ named name.now (record_value candidate.entry) }
 {
     match candidate {
