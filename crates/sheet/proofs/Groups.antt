@@ -1,9 +1,10 @@
 -- The groups of a number, read from the low one up with what they are worth so far.
-use Rattle.std.proofs.Common.{◌≡◌, ℕ, zero, suc, ◌+◌, ◌-◌, ◌*◌, ◌^◌, ◌<◌, ◌≤◌, Bool, true, false, cond, not, ◌&&◌, eqb, ltb, List, [], ◌∷◌, length, get_or, take, drop, min, IfOk, Ok, Err, Result, sym, refl, ap, ◌∙◌, mul_assoc, pow-suc, mul-add, add-one, arith, lit≤}
+use Rattle.std.proofs.Common.{◌≡◌, ℕ, zero, suc, ◌+◌, ◌-◌, ◌*◌, ◌^◌, ◌<◌, ◌≤◌, Bool, true, false, cond, not, ◌&&◌, eqb, ltb, List, [], ◌∷◌, length, get_or, take, drop, min, IfOk, Ok, Err, Result, sym, refl, ap, ◌∙◌, mul_assoc, pow-suc, mul-add, add-one, arith}
 use Rattle.std.proofs.lemmas.List.{drop_more, take_min}
 use Rattle.std.proofs.lemmas.Bool.{cond-true, cond-false, cond_both, lt-ltb, le-ltb, ne_eqb}
 use Rattle.std.proofs.lemmas.Result.{IfOk-at_ok}
 use Rattle.std.proofs.lemmas.Nat.{mul-le}
+use Rattle.std.proofs.Math.Nat.{pow-le-pow_right}
 use Rattle.sheet.specs.declared.numbers.Number.{Number}
 use Rattle.sheet.specs.declared.numbers.NumberFault.{NumberFault}
 use Rattle.sheet.specs.declared.numbers.NumberFault.TheVariants.{Malformed}
@@ -73,18 +74,10 @@ whole bytes place n e =
     ∙ ap (λ l. groups 4 true l place) (ap (λ m. take m bytes) e ∙ take_min 4 bytes)
     ∙ cut 4 true bytes place
 
--- a group of a number is worth little enough for 28 bits
-pub weight_most : (i : ℕ) → i < 4 → 128 ^ i ≤ 2097152
-weight_most zero h = lit≤ tt
-weight_most (suc zero) h = lit≤ tt
-weight_most (suc (suc zero)) h = lit≤ tt
-weight_most (suc (suc (suc zero))) h = lit≤ tt
-weight_most (suc (suc (suc (suc i)))) h = absurd (omega arith)
-
 -- one more group keeps the value below the weight of the next, and that within 28 bits
 pub room : (i w v d : ℕ) → i < 4 → w ≡ 128 ^ i → v < w → d < 128 → (v + w * d < w * 128) × (w * 128 ≤ 268435456)
 room i w v d h e below-weight small =
-    let most = weight_most i h in
+    let most : 128 ^ i ≤ 128 ^ 3 = pow-le-pow_right {n = 128} (omega arith) {j = 3} (omega arith) in
     let group = mul-le w d w 127 (omega arith) (omega arith) in
     (omega arith, omega arith)
 

@@ -1,5 +1,5 @@
 // A number of the sheet: groups of seven bits, the low group first.
-ghost use Rattle.std.specs.Prelude.{◌≡◌, not, ◌&&◌, ◌==◌};
+ghost use Rattle.std.specs.Prelude.{◌≡◌, ◌≤◌, not, ◌&&◌, ◌==◌, length, IfOk};
 ghost use Rattle.sheet.specs.Numbers.{number_read};
 
 #[derive(Clone, Copy, PartialEq, Eq, Debug)]
@@ -31,7 +31,8 @@ fn adds_nothing(byte: u8, index: usize) -> bool
 
 // Reads the number that begins `bytes`; `place` is the offset that a fault names.
 pub fn read_number(bytes: &[u8], place: usize) -> Result<Number, NumberFault>
-    ensures { result ≡ number_read bytes.now place }
+    ensures value { result ≡ number_read bytes.now place }
+    ensures within { IfOk result (λ number. number.size ≤ length bytes.now) }
 {
     let mut value: u32 = 0;
     let mut weight: u32 = 1;

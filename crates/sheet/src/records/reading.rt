@@ -7,7 +7,7 @@ use super::{Field, Found, Record, RecordFault, Rest, TaskRecord};
 use crate::numbers::{Number, read_number};
 
 // Reads a number and keeps where it begins. What it may be is judged by who asks for it.
-pub fn read_field<'a>(rest: Rest<'a>) -> Result<(Field, Rest<'a>), RecordFault>
+pub fn read_field(rest: Rest<'_>) -> Result<(Field, Rest<'_>), RecordFault>
     ensures { field_of result ≡ field_in (left_of rest.entry) }
 {
     let Rest { bytes, place } = rest;
@@ -26,7 +26,7 @@ const LONGEST_NAME: u32 = 12;
 const LONGEST_NOTE: u32 = 80;
 
 // The offset of the first of `count` bytes that no name may have.
-fn bad_byte(count: usize, rest: Rest) -> Option<usize>
+fn bad_byte(count: usize, rest: Rest<'_>) -> Option<usize>
     ensures { result ≡ bad_byte (take count rest.entry.bytes.now) rest.entry.place }
 {
     rest.bytes
@@ -37,7 +37,7 @@ fn bad_byte(count: usize, rest: Rest) -> Option<usize>
 }
 
 // The text that the length field `size` announces.
-fn read_text<'a>(size: Field, rest: Rest<'a>) -> Result<&'a [u8], RecordFault>
+fn read_text(size: Field, rest: Rest<'_>) -> Result<&[u8], RecordFault>
     ensures { text_of result ≡ text_in size (left_of rest.entry) }
 {
     let count = size.value as usize;
@@ -47,7 +47,7 @@ fn read_text<'a>(size: Field, rest: Rest<'a>) -> Result<&'a [u8], RecordFault>
 }
 
 // A bad byte counts before a missing one, so the bytes that are there are judged first.
-fn read_name<'a>(size: Field, rest: Rest<'a>) -> Result<&'a [u8], RecordFault>
+fn read_name(size: Field, rest: Rest<'_>) -> Result<&[u8], RecordFault>
     ensures { text_of result ≡ name_in size (left_of rest.entry) }
 {
     if !(SHORTEST_NAME..=LONGEST_NAME).contains(&size.value) {
@@ -59,7 +59,7 @@ fn read_name<'a>(size: Field, rest: Rest<'a>) -> Result<&'a [u8], RecordFault>
     read_text(size, rest)
 }
 
-fn read_note_text<'a>(size: Field, rest: Rest<'a>) -> Result<&'a [u8], RecordFault>
+fn read_note_text(size: Field, rest: Rest<'_>) -> Result<&[u8], RecordFault>
     ensures { text_of result ≡ note_text_in size (left_of rest.entry) }
 {
     if size.value > LONGEST_NOTE {
@@ -68,7 +68,7 @@ fn read_note_text<'a>(size: Field, rest: Rest<'a>) -> Result<&'a [u8], RecordFau
     read_text(size, rest)
 }
 
-fn read_task<'a>(rest: Rest<'a>) -> Result<Found<'a>, RecordFault>
+fn read_task(rest: Rest<'_>) -> Result<Found<'_>, RecordFault>
     ensures { found_of result ≡ task_in (left_of rest.entry) }
 {
     let (number, rest) = read_field(rest)?;
@@ -90,7 +90,7 @@ fn read_task<'a>(rest: Rest<'a>) -> Result<Found<'a>, RecordFault>
     })
 }
 
-fn read_note<'a>(rest: Rest<'a>) -> Result<Found<'a>, RecordFault>
+fn read_note(rest: Rest<'_>) -> Result<Found<'_>, RecordFault>
     ensures { found_of result ≡ note_in (left_of rest.entry) }
 {
     let (size, rest) = read_field(rest)?;
@@ -102,12 +102,13 @@ fn read_note<'a>(rest: Rest<'a>) -> Result<Found<'a>, RecordFault>
     })
 }
 
+// A kind is matched once and kept nowhere: an enum made by `TryFrom` would match the same three arms a second time.
 const TASK: u8 = 1;
 
 const NOTE: u8 = 2;
 
 // What stands behind a kind byte, which is at `place`.
-fn read_body<'a>(kind: u8, rest: Rest<'a>, place: usize) -> Result<Found<'a>, RecordFault>
+fn read_body(kind: u8, rest: Rest<'_>, place: usize) -> Result<Found<'_>, RecordFault>
     ensures { found_of result ≡ body_in kind (left_of rest.entry) place }
 {
     match kind {
@@ -118,19 +119,15 @@ fn read_body<'a>(kind: u8, rest: Rest<'a>, place: usize) -> Result<Found<'a>, Re
 }
 
 // The record of the sheet that begins at `place`, or none at the end of the sheet and past it.
-pub fn record_at<'a>(sheet: &'a [u8], place: usize) -> Result<Option<Found<'a>>, RecordFault>
+pub fn record_at(sheet: &[u8], place: usize) -> Result<Option<Found<'_>>, RecordFault>
     ensures { record_of result ≡ record_at sheet.now place }
 {
-    if place > sheet.len() {
-        return Ok(None);
-    }
-    let [kind, rest @ ..] = &sheet[place..] else {
+    let Some([kind, rest @ ..]) = sheet.get(place..) else {
         return Ok(None);
     };
     let rest = Rest {
         bytes: rest,
         place: place + 1,
     };
-    let found = read_body(*kind, rest, place)?;
-    Ok(Some(found))
+    read_body(*kind, rest, place).map(Some)
 }

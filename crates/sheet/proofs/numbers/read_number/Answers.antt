@@ -10,13 +10,13 @@ loop-index-init c = record {
   below = lit< tt;
 }
 
-pub returns-then-adds_nothing : goal.returns-then-adds_nothing
-returns-then-adds_nothing c =
+pub returns-then-adds_nothing-clause-value : goal.returns-then-adds_nothing-clause-value
+returns-then-adds_nothing-clause-value c =
     sym (longer_at _ _ _ _ _ (omega arith) c.loop-index-test.true c.if-byte-lt-MORE.true (sym c.adds_nothing.ensures ∙ c.if-adds_nothing.true))
     ∙ c.loop-index.invariant.reads
 
-pub returns-then-byte-lt-MORE : goal.returns-then-byte-lt-MORE
-returns-then-byte-lt-MORE c =
+pub returns-then-byte-lt-MORE-clause-value : goal.returns-then-byte-lt-MORE-clause-value
+returns-then-byte-lt-MORE-clause-value c =
     rw c.from.ensures
     (sym (whole_at _ _ _ c.args.place _ (omega arith) c.loop-index-test.true c.if-byte-lt-MORE.true (sym c.adds_nothing.ensures ∙ c.if-adds_nothing.false)) ∙ c.loop-index.invariant.reads)
 
