@@ -14,11 +14,11 @@ use Rattle.std.proofs.lemmas.List.{set-get_or}
 use Rattle.std.proofs.lemmas.Bool.{and_parts, cases_eq, cond-false, cond-true, eqb-true, ltb-true}
 
 -- the tree without its last place, and that entry in another place, where it is still to settle
-abbrev pub filled : Tree → ℕ → Entry → Tree
-filled tree place last = laid (resized tree (tree.len - 1)) place last
+abbrev pub filled : (tree : Tree) → tree.len - 1 ≤ 64 → ℕ → Entry → Tree
+filled tree room place last = laid (resized tree (tree.len - 1) room) place last
 
 -- a tree, one of its places, the number there, and the last entry
-module _ (tree : Tree) (held : Held) (s : Stands tree held) (number : ℕ) (place : ℕ) (lt : place < tree.len) (is : (entry_in tree place).number ≡ number) (last : Entry) (is_last : last ≡ entry_in tree (tree.len - 1)) where
+module _ (tree : Tree) (held : Held) (s : Stands tree held) (number : ℕ) (place : ℕ) (lt : place < tree.len) (is : (entry_in tree place).number ≡ number) (last : Entry) (is_last : last ≡ entry_in tree (tree.len - 1)) (room : tree.len - 1 ≤ 64) where
   -- the number is a task number
   range_taken : in_range number ≡ true
   range_taken = subst (λ n. in_range n ≡ true) is (range_from (entry_in tree place).number (numbered tree held s place lt))
@@ -40,13 +40,13 @@ module _ (tree : Tree) (held : Held) (s : Stands tree held) (number : ℕ) (plac
   last_noted = ap (λ e. place_in tree e.number) is_last ∙ s.indexed (tree.len - 1) (omega arith)
 
   -- the tree holds what it held but for the number
-  stands_take : Stands (filled tree place last) (set held (number - 1) None)
+  stands_take : Stands (filled tree room place last) (set held (number - 1) None)
   stands_take =
       let n = tree.len - 1 in
       let held' = set held (number - 1) None in
-      let new = filled tree place last in
+      let new = filled tree room place last in
       let low : 0 < number = omega (arith, slot_back held number (sym range_taken)) in
-      let here : entry_in new place ≡ last = entry_laid tree place last (omega (arith, s.room, s.memory)) in
+      let here : entry_in new place ≡ last = entry_laid tree place last (omega (arith, tree.room, s.memory)) in
       let lastHigh : last.number ≤ 64 = subst (λ e. e.number ≤ 64) (sym is_last) (numbered tree held s n (omega arith)).1 in
       let noted : place_in new last.number ≡ place = place_laid tree place last (omega (arith, last_low, s.index)) in
       let gone : entry_at held' number ≡ None = entry_at-set_same held number None s.slotted range_taken in
@@ -55,7 +55,6 @@ module _ (tree : Tree) (held : Held) (s : Stands tree held) (number : ℕ) (plac
         slotted = slotted_set held (number - 1) None s.slotted (λ a none'. absurd (some_none a (sym none')));
         memory = length-set tree.entries place last ∙ s.memory;
         index = length-set tree.places (last.number - 1) place ∙ s.index;
-        room = omega (arith, s.room);
         count = omega (arith, count_set held number (Some (entry_in tree place)) None s.slotted range_taken taken_some, s.count);
         kept = λ p pn. ⊎_elim
             (λ (same : p ≡ place). subst (λ a. entry_at held' a.number ≡ Some a) (sym (ap (entry_in new) same ∙ (here ∙ is_last)))
@@ -88,7 +87,7 @@ module _ (tree : Tree) (held : Held) (s : Stands tree held) (number : ℕ) (plac
       }
 
   -- only the steps at the place may be out of order
-  holed_take : (before : Entry → Entry → Bool) → Lawful before → Ordered before tree → place < tree.len - 1 → Holed before (set held (number - 1) None) (filled tree place last) place
+  holed_take : (before : Entry → Entry → Bool) → Lawful before → Ordered before tree → place < tree.len - 1 → Holed before (set held (number - 1) None) (filled tree room place last) place
   holed_take before laws ordered in' = record {
     stands = stands_take;
     within = in';
@@ -99,36 +98,36 @@ module _ (tree : Tree) (held : Held) (s : Stands tree held) (number : ℕ) (plac
   }
 
   -- the last entry itself leaves the rest as it is
-  last_taken : place ≡ tree.len - 1 → filled tree place last ≡ resized tree (tree.len - 1)
+  last_taken : place ≡ tree.len - 1 → filled tree room place last ≡ resized tree (tree.len - 1) room
   last_taken same =
       let blank : Entry = record { number = 0; deadline = 0; rate = 0 } in
       let entries : set tree.entries place last ≡ tree.entries =
       ap (set tree.entries place) (is_last ∙ ap (entry_in tree) (sym same)) ∙ set-get_or tree.entries place blank in
       let places : set tree.places (last.number - 1) place ≡ tree.places =
       ap (set tree.places (last.number - 1)) (same ∙ sym last_noted) ∙ set-get_or tree.places (last.number - 1) 0 in
-      ap (λ es. record { entries = es; places = set tree.places (last.number - 1) place; len = tree.len - 1 }) entries
-      ∙ ap (λ ps. record { entries = tree.entries; places = ps; len = tree.len - 1 }) places
+      ap (λ es. record { entries = es; places = set tree.places (last.number - 1) place; len = tree.len - 1; room = room }) entries
+      ∙ ap (λ ps. record { entries = tree.entries; places = ps; len = tree.len - 1; room = room }) places
 
 -- what remove may say of a place
-pub record Leaving (before : Entry → Entry → Bool) (tree : Tree) (place : ℕ) (last : Entry) : Type 0 where
-  pub list : held_in (filled tree place last) ≡ taken_out (held_in tree) (entry_in tree place).number
-  pub holed : place < tree.len - 1 → Holed before (held_in (filled tree place last)) (filled tree place last) place
+pub record Leaving (before : Entry → Entry → Bool) (tree : Tree) (room : tree.len - 1 ≤ 64) (place : ℕ) (last : Entry) : Type 0 where
+  pub list : held_in (filled tree room place last) ≡ taken_out (held_in tree) (entry_in tree place).number
+  pub holed : place < tree.len - 1 → Holed before (held_in (filled tree room place last)) (filled tree room place last) place
   -- where the last entry itself leaves, the rest is in order as it stands
-  pub rest : tree.len - 1 ≤ place → (held_in (resized tree (tree.len - 1)) ≡ taken_out (held_in tree) (entry_in tree place).number) × Sound before (resized tree (tree.len - 1))
+  pub rest : tree.len - 1 ≤ place → (held_in (resized tree (tree.len - 1) room) ≡ taken_out (held_in tree) (entry_in tree place).number) × Sound before (resized tree (tree.len - 1) room)
 
-pub leaving : (before : Entry → Entry → Bool) → Lawful before → (tree : Tree) → Sound before tree → (place : ℕ) → place < tree.len → (last : Entry) → last ≡ entry_in tree (tree.len - 1) → Leaving before tree place last
-leaving before laws tree ok place within last is_last =
+pub leaving : (before : Entry → Entry → Bool) → Lawful before → (tree : Tree) → Sound before tree → (place : ℕ) → place < tree.len → (last : Entry) → last ≡ entry_in tree (tree.len - 1) → (room : tree.len - 1 ≤ 64) → Leaving before tree room place last
+leaving before laws tree ok place within last is_last room =
     let number = (entry_in tree place).number in
     let held = held_in tree in
     let held' = set held (number - 1) None in
-    let cut = resized tree (tree.len - 1) in
-    let s : Stands (filled tree place last) held' = stands_take tree held ok.stands number place within refl last is_last in
-    let list : held_in (filled tree place last) ≡ taken_out held number = held_is (filled tree place last) held' s ∙ sym (cond-true (holds held number) held' held (ap is_some (ok.stands.kept place within))) in
+    let cut = resized tree (tree.len - 1) room in
+    let s : Stands (filled tree room place last) held' = stands_take tree held ok.stands number place within refl last is_last room in
+    let list : held_in (filled tree room place last) ≡ taken_out held number = held_is (filled tree room place last) held' s ∙ sym (cond-true (holds held number) held' held (ap is_some (ok.stands.kept place within))) in
     record {
       list = list;
-      holed = λ in'. as_held before (filled tree place last) held' place (holed_take tree held ok.stands number place within refl last is_last before laws ok.ordered in');
+      holed = λ in'. as_held before (filled tree room place last) held' place (holed_take tree held ok.stands number place within refl last is_last room before laws ok.ordered in');
       rest = λ out.
-          let same : filled tree place last ≡ cut = last_taken tree held ok.stands number place within refl last is_last (omega arith) in
+          let same : filled tree room place last ≡ cut = last_taken tree held ok.stands number place within refl last is_last room (omega arith) in
           let alone : Stands cut held' = subst (λ t. Stands t held') same s in (
             ap held_in (sym same) ∙ list,
             record { stands = subst (Stands cut) (sym (held_is cut held' alone)) alone; ordered = λ k lk kn. ok.ordered k lk (omega arith) },

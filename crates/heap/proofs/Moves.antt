@@ -9,8 +9,8 @@ use Rattle.ready.specs.Held.{Held, entry_at}
 use Rattle.std.proofs.lemmas.Bool.{cases_eq}
 
 -- a tree cut off or grown to another length
-abbrev pub resized : Tree → ℕ → Tree
-resized tree len = record { entries = tree.entries; places = tree.places; len = len }
+abbrev pub resized : (tree : Tree) (len : ℕ) → len ≤ 64 → Tree
+resized tree len room = record { entries = tree.entries; places = tree.places; len = len; room = room }
 
 module _ (tree : Tree) (place : ℕ) (e : Entry) where
   -- an entry that is laid at a place stands there
@@ -52,7 +52,7 @@ module _ (tree : Tree) (held : Held) (h : ℕ) (x : Entry) (s : Stands (laid tre
 
   -- the hole lies in the memory
   hole_low : h < length tree.entries
-  hole_low = omega (arith, memory_long, s.room)
+  hole_low = omega (arith, memory_long, tree.room)
 
   -- the hole holds the moved entry
   pub in_hole : entry_in (laid tree h x) h ≡ x
@@ -87,7 +87,7 @@ module _ (tree : Tree) (held : Held) (h : ℕ) (x : Entry) (s : Stands (laid tre
           memory = length-set mid.entries c x ∙ (en ∙ sym (length-set tree.entries h x));
           index = length-set mid.places (x.number - 1) c ∙ (pn ∙ sym (length-set tree.places (x.number - 1) h));
           here = entry_kept mid c x h (λ same. ne (sym same)) ∙ (entry_laid tree h y hole_low ∙ sym isY);
-          there = entry_laid mid c x (omega (arith, en, memory_long, s.room)) ∙ sym isX;
+          there = entry_laid mid c x (omega (arith, en, memory_long, tree.room)) ∙ sym isX;
           rest = λ place nh nc. entry_kept mid c x place nc ∙ (entry_kept tree h y place nh ∙ sym (entry_kept tree h x place nh));
           here_noted = ap (λ e. place_in new e.number) isY ∙ (place_kept mid c x y.number pulled_number.0 moved_number.0 two_numbers
               ∙ place_laid tree h y (omega (arith, pulled_number.0, pulled_number.1, index_long)));
@@ -150,7 +150,6 @@ module _ (old new : Tree) (held : Held) (h c : ℕ) (ex : Exchanged old new h c)
     slotted = s.slotted;
     memory = ex.memory ∙ s.memory;
     index = ex.index ∙ s.index;
-    room = omega (arith, ex.len, s.room);
     count = ex.len ∙ s.count;
     kept = λ place lt. kept_after place (omega (arith, ex.len));
     indexed = λ place lt. indexed_after place (omega (arith, ex.len));

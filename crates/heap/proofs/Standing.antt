@@ -84,7 +84,6 @@ stands_none tree memory index empty = record {
   slotted = slotted_none;
   memory = memory;
   index = index;
-  room = omega arith;
   count = empty;
   kept = λ place lt. absurd (omega arith);
   indexed = λ place lt. absurd (omega arith);

@@ -42,7 +42,7 @@ record Best (before : Entry → Entry → Bool) (tree : Tree) (h c : ℕ) : Type
 module _ (before : Entry → Entry → Bool) (laws : Lawful before) (tree : Tree) (held : Held) (h : ℕ) (x : Entry) (o : Holed before held (laid tree h x) h) where
   -- the hole lies in the memory
   pub hole_below : h < 64
-  hole_below = omega (arith, o.within, o.stands.room)
+  hole_below = omega (arith, o.within, tree.room)
 
   -- the moved entry has a task number
   pub moved_range : in_range x.number ≡ true

@@ -1,6 +1,5 @@
 // The memory of the heap: a binary tree laid out in an array, and an index of it by task number.
-ghost use Rattle.std.specs.Prelude.{◌≡◌, ◌<◌, true, length, is_some, IfSome};
-ghost use Rattle.heap.specs.Sound.{IsPlaceOf, Stands, entry_in, held_in, laid, root_of};
+ghost use Rattle.std.specs.Prelude.{◌≡◌, ◌<◌, ◌≤◌, true, length, is_some, IfSome};
 ghost use Rattle.order.specs.Orders.{in_range};
 ghost use Rattle.ready.specs.Held.{holds};
 
@@ -13,9 +12,12 @@ pub struct Tree {
     pub(crate) entries: [Entry; 64],
     pub(crate) places: [usize; 64],
     pub(crate) len: usize,
+    ghost room: { len ≤ 64 },
 }
 
 impl Tree {
+    ghost use Rattle.heap.specs.Sound.{IsPlaceOf, Stands, entry_in, held_in, laid, root_of};
+
     // A tree without entries.
     pub fn new() -> Tree
         ensures entries { length result.entries ≡ 64 }

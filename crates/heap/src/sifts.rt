@@ -27,8 +27,7 @@ impl Tree {
 
     // The child that comes first, of a place that has one.
     fn first_child<O: TieOrder>(&self, hole: usize) -> Option<usize>
-        requires within { hole < 64 }
-        requires room { self.now.len ≤ 64 }
+        requires { hole < 64 }
         ensures { result ≡ child_of O.TieOrder.before self.now hole }
     {
         let left = 2 * hole + 1;
@@ -42,8 +41,7 @@ impl Tree {
 
     // The first child of the hole, where it comes before the entry.
     fn sinks<O: TieOrder>(&self, hole: usize, e: Entry) -> Option<usize>
-        requires within { hole < 64 }
-        requires room { self.now.len ≤ 64 }
+        requires { hole < 64 }
         ensures { result ≡ sinks_to O.TieOrder.before self.now hole e }
     {
         self.first_child::<O>(hole)
@@ -52,8 +50,7 @@ impl Tree {
 
     // The place that is to change with the hole, for an entry that may not stand in it.
     fn next<O: TieOrder>(&self, hole: usize, e: Entry) -> Option<usize>
-        requires within { hole < 64 }
-        requires room { self.now.len ≤ 64 }
+        requires { hole < 64 }
         ensures { result ≡ next_place O.TieOrder.before self.now hole e }
     {
         self.rises::<O>(hole, e)
