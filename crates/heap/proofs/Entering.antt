@@ -2,7 +2,7 @@
 use Rattle.std.proofs.Common.{◌≡◌, ℕ, ◌+◌, ◌-◌, ◌<◌, ◌≤◌, Bool, true, false, set, is_some, not, Some, None, count_by, Option, sym, ap, ◌∙◌, subst, ⊎_elim, arith, length-set}
 use Rattle.heap.proofs.Paths.{as_held, by}
 use Rattle.heap.proofs.Moves.{entry_kept, entry_laid, place_kept, place_laid, resized}
-use Rattle.heap.proofs.Standing.{count_set, found_holds, held_is, numbered, some_found, some_none}
+use Rattle.heap.proofs.Standing.{count_set, held_is, numbered, some_none}
 use Rattle.heap.specs.Sifts.{BeforeChildren, Holed}
 use Rattle.heap.specs.Sound.{Ordered, Sound, Stands, entry_in, found, held_in, laid, parent, place_in}
 use Rattle.heap.specs.declared.memory.Tree.{Tree}

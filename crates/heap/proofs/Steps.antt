@@ -10,6 +10,7 @@ use Rattle.order.specs.Orders.{Lawful, in_range}
 use Rattle.order.specs.declared.entries.Entry.{Entry}
 use Rattle.ready.proofs.Slots.{range_from}
 use Rattle.ready.specs.Held.{Held}
+use Rattle.std.proofs.lemmas.Bool.Decides.{nat_tests}
 use Rattle.std.proofs.lemmas.Bool.{and_cases, and_parts, cases_Bool, cases_eq, cond-false, cond-true, false_from_ne_true, ltb-false, ltb-true}
 
 -- how many turns a sift may still take at a place: it goes up, or down, or has no place to go to
@@ -40,10 +41,6 @@ record Best (before : Entry → Entry → Bool) (tree : Tree) (h c : ℕ) : Type
 
 -- a tree in memory, and the same with the moved entry x in the hole h
 module _ (before : Entry → Entry → Bool) (laws : Lawful before) (tree : Tree) (held : Held) (h : ℕ) (x : Entry) (o : Holed before held (laid tree h x) h) where
-  -- the hole lies in the memory
-  pub hole_below : h < 64
-  hole_below = omega (arith, o.within, tree.room)
-
   -- the moved entry has a task number
   pub moved_range : in_range x.number ≡ true
   moved_range = range_from x.number (moved_number tree held h x o.stands o.within)
@@ -61,18 +58,13 @@ module _ (before : Entry → Entry → Bool) (laws : Lawful before) (tree : Tree
 
   -- an entry that rises has an entry above it, which comes after it
   rises_yes : true ≡ rises before tree h x → (0 < h) × (before (entry_in (laid tree h x) h) (entry_in (laid tree h x) (parent h)) ≡ true)
-  rises_yes is =
-      let parts = and_parts (ltb 0 h) (before x (entry_in tree (parent h))) (sym is) in
-      let low : 0 < h = ltb-true 0 h parts.0 in
-      (low, by before hole_is (rest_is (parent h) (λ e. omega arith)) parts.1)
+  rises_yes is = grind (arith, nat_tests, hole_is, rest_is (parent h))
 
   -- an entry that does not rise comes after the one above it
   pub rests_above : false ≡ rises before tree h x → AfterParent before (laid tree h x) h
-  rests_above is low = ⊎_elim
-      (λ (out : ltb 0 h ≡ false). absurd (omega (arith, ltb-false 0 h out)))
-      (λ (late : before x (entry_in tree (parent h)) ≡ false).
-      turned before laws (laid tree h x) held o.stands h (parent h) o.within (omega (arith, o.within)) (λ e. omega arith) (by before hole_is (rest_is (parent h) (λ e. omega arith)) late))
-      (and_cases (ltb 0 h) (before x (entry_in tree (parent h))) (sym is))
+  rests_above is low =
+      let up : before (entry_in (laid tree h x) h) (entry_in (laid tree h x) (parent h)) ≡ false = grind (arith, nat_tests, hole_is, rest_is (parent h)) in
+      turned before laws (laid tree h x) held o.stands h (parent h) o.within (omega (arith, o.within)) (λ e. omega arith) up
 
   -- an entry that rises comes before all below the hole
   pub leads_below : true ≡ rises before tree h x → BeforeChildren before (laid tree h x) h
@@ -114,39 +106,25 @@ module _ (before : Entry → Entry → Bool) (laws : Lawful before) (tree : Tree
   -- an entry that sinks has a best child, which comes before it
   sinks_yes : (c : ℕ) → Some c ≡ sinks_to before tree h x → Best before (laid tree h x) h c × (before (entry_in (laid tree h x) c) (entry_in (laid tree h x) h) ≡ true)
   sinks_yes c is =
-      let fc = first_child before tree h in
-      let test = ltb (left_child h) tree.len && before (entry_in tree fc) x in
-      ⊎_elim
-      (λ (hit : test ≡ true).
-      let parts = and_parts (ltb (left_child h) tree.len) (before (entry_in tree fc) x) hit in
-      let both : Some c ≡ Some fc = is ∙ cond-true test (Some fc) None hit in
-      let same : fc ≡ c = cc in
-      let best = best_child (ltb-true (left_child h) tree.len parts.0) in
-      subst (λ n. Best before (laid tree h x) h n × (before (entry_in (laid tree h x) n) (entry_in (laid tree h x) h) ≡ true)) same
-      (best, by before (rest_is fc (λ e. omega (arith, best.low, best.child))) hole_is parts.1))
-      (λ (miss : test ≡ false). absurd (some_none c (is ∙ cond-false test (Some fc) None miss)))
-      (cases_Bool test)
+      let low : left_child h < tree.len = grind (arith, nat_tests) in
+      let same : c ≡ first_child before tree h = grind (arith, nat_tests) in
+      let first : before (entry_in tree (first_child before tree h)) x ≡ true = grind (arith, nat_tests) in
+      let best = best_child low in
+      subst (λ n. Best before (laid tree h x) h n × (before (entry_in (laid tree h x) n) (entry_in (laid tree h x) h) ≡ true)) (sym same)
+      (best, by before (rest_is (first_child before tree h) (λ e. omega (arith, best.low, best.child))) hole_is first)
 
   -- an entry that does not sink comes before all below the hole
   rests_below : None ≡ sinks_to before tree h x → BeforeChildren before (laid tree h x) h
   rests_below is k lk lt child =
       let fc = first_child before tree h in
-      let test = ltb (left_child h) tree.len && before (entry_in tree fc) x in
       let best = best_child (omega arith) in
       let away : fc ≡ h → ⊥ = λ e. omega (arith, best.low, best.child) in
-      ⊎_elim
-      (λ (hit : test ≡ true). absurd (some_none fc (sym (is ∙ cond-true test (Some fc) None hit))))
-      (λ (miss : test ≡ false). ⊎_elim
-      (λ (out : ltb (left_child h) tree.len ≡ false). absurd (omega (arith, ltb-false (left_child h) tree.len out)))
-      (λ (late : before (entry_in tree fc) x ≡ false).
-      let over : before (entry_in (laid tree h x) h) (entry_in (laid tree h x) fc) ≡ true =
-      turned before laws (laid tree h x) held o.stands fc h best.within o.within away (by before (rest_is fc away) hole_is late) in
+      let late : before (entry_in tree fc) x ≡ false = grind (arith, nat_tests) in
+      let over = turned before laws (laid tree h x) held o.stands fc h best.within o.within away (by before (rest_is fc away) hole_is late) in
       ⊎_elim
       (λ (same : k ≡ fc). by before refl (ap (entry_in (laid tree h x)) same) over)
       (λ (ne : k ≡ fc → ⊥). linked before laws (laid tree h x) held o.stands h fc k o.within best.within lt (λ e. away (sym e)) (λ e. ne (sym e)) (λ e. omega arith) over (best.first k lk lt child ne))
-      (cases_eq k fc))
-      (and_cases (ltb (left_child h) tree.len) (before (entry_in tree fc) x) miss))
-      (cases_Bool test)
+      (cases_eq k fc)
 
   -- an entry that comes before all below the hole does not sink
   stays_below : BeforeChildren before (laid tree h x) h → sinks_to before tree h x ≡ None
