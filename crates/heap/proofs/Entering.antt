@@ -1,14 +1,14 @@
 -- Put: the tree with a new entry behind its last.
-use Rattle.std.proofs.Common.{◌≡◌, ℕ, ◌+◌, ◌-◌, ◌<◌, ◌≤◌, Bool, true, false, set, is_some, not, Some, None, count_by, Option, sym, ap, ◌∙◌, subst, ⊎_elim, arith, length-set}
+use Rattle.std.proofs.Common.{◌≡◌, ℕ, ◌+◌, ◌-◌, ◌<◌, ◌≤◌, Bool, true, set, is_some, not, Some, None, count_by, sym, ap, ◌∙◌, subst, ⊎_elim, arith, length-set}
 use Rattle.heap.proofs.Paths.{as_held, by}
 use Rattle.heap.proofs.Moves.{entry_kept, entry_laid, place_kept, place_laid, resized}
 use Rattle.heap.proofs.Standing.{count_set, held_is, numbered, some_none}
-use Rattle.heap.specs.Sifts.{BeforeChildren, Holed}
-use Rattle.heap.specs.Sound.{Ordered, Sound, Stands, entry_in, found, held_in, laid, parent, place_in}
+use Rattle.heap.specs.Sifts.{Holed}
+use Rattle.heap.specs.Sound.{Ordered, Sound, Stands, entry_in, held_in, laid, parent, place_in}
 use Rattle.heap.specs.declared.memory.Tree.{Tree}
 use Rattle.order.specs.Orders.{in_range}
 use Rattle.order.specs.declared.entries.Entry.{Entry}
-use Rattle.ready.proofs.Slots.{entry_slot, entry_at-set_other, entry_at-set_same, slot_at-some, free_yes, none_from_empty, number_high, slot_back, slotted_set}
+use Rattle.ready.proofs.Slots.{entry_at-set_other, entry_at-set_same, slot_at-some, none_from_empty, number_high, slot_back, slotted_set}
 use Rattle.ready.specs.Held.{Held, entry_at, free, holds, put_in}
 use Rattle.std.proofs.lemmas.List.Sums.{count_by-le-length}
 use Rattle.std.proofs.lemmas.Bool.{and_parts, cases_eq, cond-true, not-true}

@@ -1,17 +1,17 @@
 -- Take out: the tree with its last entry in the place of the one that leaves.
-use Rattle.std.proofs.Common.{◌≡◌, ℕ, ◌-◌, ◌<◌, ◌≤◌, Bool, true, false, eqb, ltb, set, is_some, Some, None, sym, refl, ap, ◌∙◌, subst, ⊎_elim, arith, length-set}
+use Rattle.std.proofs.Common.{◌≡◌, ℕ, ◌-◌, ◌<◌, ◌≤◌, Bool, true, set, is_some, Some, None, sym, refl, ap, ◌∙◌, subst, ⊎_elim, arith, length-set}
 use Rattle.heap.proofs.Paths.{as_held, by, linked}
 use Rattle.heap.proofs.Moves.{entry_kept, entry_laid, place_kept, place_laid, resized}
 use Rattle.heap.proofs.Standing.{apart, count_set, held_is, numbered, some_none}
 use Rattle.heap.specs.Sifts.{Holed}
-use Rattle.heap.specs.Sound.{Ordered, Sound, Stands, entry_in, found, held_in, laid, parent, place_in}
+use Rattle.heap.specs.Sound.{Ordered, Sound, Stands, entry_in, held_in, laid, parent, place_in}
 use Rattle.heap.specs.declared.memory.Tree.{Tree}
 use Rattle.order.specs.Orders.{Lawful, in_range}
 use Rattle.order.specs.declared.entries.Entry.{Entry}
 use Rattle.ready.proofs.Slots.{entry_at-set_other, entry_at-set_same, slot_at-some, range_from, slot_back, slotted_set}
 use Rattle.ready.specs.Held.{Held, entry_at, holds, taken_out}
 use Rattle.std.proofs.lemmas.List.{set-get_or}
-use Rattle.std.proofs.lemmas.Bool.{and_parts, cases_eq, cond-false, cond-true, eqb-true, ltb-true}
+use Rattle.std.proofs.lemmas.Bool.{cases_eq, cond-true}
 
 -- the tree without its last place, and that entry in another place, where it is still to settle
 abbrev pub filled : (tree : Tree) → tree.len - 1 ≤ 64 → ℕ → Entry → Tree

@@ -1,17 +1,16 @@
 -- What the tree's memory means: the entries that stand in it are the ones that it holds.
-use Rattle.std.proofs.Common.{◌≡◌, ℕ, ◌+◌, ◌-◌, ◌<◌, ◌≤◌, Bool, true, false, cond, eqb, ltb, length, get_or, set, is_some, Some, None, count_by, Option, sym, refl, ap, ◌∙◌, subst, ⊎_elim, arith}
-use Rattle.heap.specs.Sound.{Stands, entry_in, found, held_in, place_in, slot_in}
+use Rattle.std.proofs.Common.{◌≡◌, ℕ, ◌+◌, ◌-◌, ◌<◌, ◌≤◌, true, cond, length, get_or, set, is_some, Some, None, count_by, Option, sym, refl, ap, ◌∙◌, subst, arith}
+use Rattle.heap.specs.Sound.{Stands, entry_in, held_in, place_in, slot_in}
 use Rattle.heap.specs.declared.memory.Tree.{Tree}
 use Rattle.order.specs.Orders.{Apart, in_range}
 use Rattle.order.specs.declared.entries.Entry.{Entry}
 use Rattle.ready.proofs.First.{none_holds}
 use Rattle.ready.proofs.Slots.{entry_slot, entry_at-in, entry_at-number, slot_at-some, number_high, slot_back, slotted_none}
-use Rattle.ready.specs.Held.{Held, Slotted, entry_at, holds, none}
+use Rattle.ready.specs.Held.{Held, Slotted, entry_at, none}
 use Rattle.std.proofs.lemmas.List.FromFn.{get_or-map-range_with_len, length-map-range_with_len}
 use Rattle.std.proofs.lemmas.List.{ext_get_or}
 use Rattle.std.proofs.lemmas.List.Sums.{sum_by-set}
 use Rattle.std.proofs.lemmas.Bool.Decides.{nat_tests}
-use Rattle.std.proofs.lemmas.Bool.{and_from, and_parts, cases_Bool, cond-false, cond-true, eq-eqb, eqb-true, lt-ltb, ltb-true}
 
 -- something is not nothing
 pub some_none : {A : Type 0} (x : A) → ◌≡◌ {A = Option A} (Some x) None → ⊥

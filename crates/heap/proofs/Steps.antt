@@ -11,7 +11,7 @@ use Rattle.order.specs.declared.entries.Entry.{Entry}
 use Rattle.ready.proofs.Slots.{range_from}
 use Rattle.ready.specs.Held.{Held}
 use Rattle.std.proofs.lemmas.Bool.Decides.{nat_tests}
-use Rattle.std.proofs.lemmas.Bool.{and_cases, and_parts, cases_Bool, cases_eq, cond-false, cond-true, false_from_ne_true, ltb-false, ltb-true}
+use Rattle.std.proofs.lemmas.Bool.{cases_Bool, cases_eq, false_from_ne_true, lt-ltb, true≢false}
 
 -- how many turns a sift may still take at a place: it goes up, or down, or has no place to go to
 abbrev pub turns : Bool → Option ℕ → ℕ → ℕ → ℕ
@@ -31,6 +31,12 @@ fewer_down up up' down down' h c len len' no' yes' out lt within same = grind ar
 none_from : {A : Type 0} (o : Option A) → ((a : A) → o ≡ Some a → ⊥) → o ≡ None
 none_from None never = refl
 none_from (Some a) never = absurd (never a refl)
+
+-- the right child is picked where there is one and it comes first
+picked : (there ahead : Bool) (l r : ℕ) → ((cond (there && ahead) r l ≡ r) × (ahead ≡ true)) ⊎ ((cond (there && ahead) r l ≡ l) × (there ≡ true → ahead ≡ false))
+picked true true l r = inl (refl, refl)
+picked true false l r = inr (refl, λ _. refl)
+picked false ahead l r = inr (refl, λ no'. absurd (true≢false (sym no')))
 
 -- a child of the hole that comes before its other children
 record Best (before : Entry → Entry → Bool) (tree : Tree) (h c : ℕ) : Type 0 where
@@ -78,30 +84,22 @@ module _ (before : Entry → Entry → Bool) (laws : Lawful before) (tree : Tree
   best_child in' =
       let l = left_child h in
       let r = left_child h + 1 in
-      let pick = ltb r tree.len && before (entry_in tree r) (entry_in tree l) in
-      ⊎_elim
-      (λ (is : pick ≡ true).
-      let parts = and_parts (ltb r tree.len) (before (entry_in tree r) (entry_in tree l)) is in
-      let fact : before (entry_in (laid tree h x) r) (entry_in (laid tree h x) l) ≡ true = by before (rest_is r (λ e. omega arith)) (rest_is l (λ e. omega arith)) parts.1 in
-      subst (Best before (laid tree h x) h) (sym (cond-true pick r l is)) (record {
-        low = omega arith;
-        within = ltb-true r tree.len parts.0;
-        child = omega arith;
-        first = λ k lk lt child ne. let isL : k ≡ l = omega arith in by before refl (ap (entry_in (laid tree h x)) isL) fact;
-      }))
-      (λ (is : pick ≡ false). subst (Best before (laid tree h x) h) (sym (cond-false pick r l is)) (record {
-        low = omega arith;
-        within = in';
-        child = omega arith;
-        first = λ k lk lt child ne.
-            let isR : k ≡ r = omega arith in
-            ⊎_elim
-            (λ (out : ltb r tree.len ≡ false). absurd (omega (arith, ltb-false r tree.len out)))
-            (λ (late : before (entry_in tree r) (entry_in tree l) ≡ false). by before refl (ap (entry_in (laid tree h x)) isR)
-            (turned before laws (laid tree h x) held o.stands r l (omega arith) in' (λ e. omega arith) (by before (rest_is r (λ e. omega arith)) (rest_is l (λ e. omega arith)) late)))
-            (and_cases (ltb r tree.len) (before (entry_in tree r) (entry_in tree l)) is);
-      }))
-      (cases_Bool pick)
+      let left : entry_in (laid tree h x) l ≡ entry_in tree l = rest_is l (λ e. omega arith) in
+      let right : entry_in (laid tree h x) r ≡ entry_in tree r = rest_is r (λ e. omega arith) in
+      record {
+        low = grind (arith, nat_tests);
+        within = grind (arith, nat_tests);
+        child = grind (arith, nat_tests);
+        first = λ k lk lt child ne. ⊎_elim
+            (λ (picks : (first_child before tree h ≡ r) × (before (entry_in tree r) (entry_in tree l) ≡ true)).
+            let isL : k ≡ l = omega (arith, picks.0) in
+            by before (ap (entry_in (laid tree h x)) picks.0 ∙ right) (ap (entry_in (laid tree h x)) isL ∙ left) picks.1)
+            (λ (picks : (first_child before tree h ≡ l) × (ltb r tree.len ≡ true → before (entry_in tree r) (entry_in tree l) ≡ false)).
+            let isR : k ≡ r = omega (arith, picks.0) in
+            let late = by before right left (picks.1 (lt-ltb r tree.len (omega arith))) in
+            by before (ap (entry_in (laid tree h x)) picks.0) (ap (entry_in (laid tree h x)) isR) (turned before laws (laid tree h x) held o.stands r l (omega arith) in' (λ e. omega arith) late))
+            (picked (ltb r tree.len) (before (entry_in tree r) (entry_in tree l)) l r);
+      }
 
   -- an entry that sinks has a best child, which comes before it
   sinks_yes : (c : ℕ) → Some c ≡ sinks_to before tree h x → Best before (laid tree h x) h c × (before (entry_in (laid tree h x) c) (entry_in (laid tree h x) h) ≡ true)
@@ -144,10 +142,7 @@ module _ (before : Entry → Entry → Bool) (laws : Lawful before) (tree : Tree
 
   -- the next place is the one above or the first child
   next_is : (o : Option ℕ) → o ≡ next_place before tree h x → ((rises before tree h x ≡ true) × (o ≡ Some (parent h))) ⊎ ((rises before tree h x ≡ false) × (o ≡ sinks_to before tree h x))
-  next_is o is = ⊎_elim
-      (λ (yes' : rises before tree h x ≡ true). inl (yes', is ∙ cond-true (rises before tree h x) (Some (parent h)) (sinks_to before tree h x) yes'))
-      (λ (no' : rises before tree h x ≡ false). inr (no', is ∙ cond-false (rises before tree h x) (Some (parent h)) (sinks_to before tree h x) no'))
-      (cases_Bool (rises before tree h x))
+  next_is o is = grind (arith, cases_Bool (rises before tree h x))
 
   -- a tree is in order once the moved entry is written where it fits
   pub ends : (new : Tree) → new ≡ laid tree h x → None ≡ next_place before tree h x → (held_in new ≡ held) × Sound before new

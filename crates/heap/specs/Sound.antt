@@ -1,5 +1,5 @@
 -- What the heap's memory means, and when it is in order.
-use Rattle.std.specs.Prelude.{◌≡◌, ℕ, ◌+◌, ◌-◌, ◌*◌, ◌/◌, ◌<◌, ◌≤◌, Bool, true, cond, ◌&&◌, map, length, is_some, Some, None, count_by, Option, ◌==◌, nat_lt, slice_index, slice_index_or, slice_set}
+use Rattle.std.specs.Prelude.{◌≡◌, ℕ, ◌+◌, ◌-◌, ◌*◌, ◌/◌, ◌<◌, Bool, true, cond, ◌&&◌, map, length, is_some, Some, None, count_by, Option, ◌==◌, nat_lt, slice_index, slice_index_or, slice_set}
 use Rattle.heap.specs.declared.memory.Tree.{Tree}
 use Rattle.order.specs.declared.entries.Entry.{Entry}
 use Rattle.ready.specs.Held.{Held, Slotted, entry_at}
