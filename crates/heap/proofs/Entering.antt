@@ -52,28 +52,9 @@ module _ (tree : Tree) (held : Held) (s : Stands tree held) (e : Entry) (range :
         memory = length-set tree.entries n e ∙ s.memory;
         index = length-set tree.places (e.number - 1) n ∙ s.index;
         count = omega (arith, counted tree held s e range free', s.count);
-        kept = λ place lt. ⊎_elim
-            (λ (is : place ≡ n). subst (λ a. entry_at held' a.number ≡ Some a) (sym (ap (entry_in new) is ∙ here)) mine)
-            (λ (ne : place ≡ n → ⊥). subst (λ a. entry_at held' a.number ≡ Some a) (sym (entry_kept tree n e place ne))
-            (others (entry_in tree place).number (fresh tree held s e range free' place (omega arith)) ∙ s.kept place (omega arith)))
-            (cases_eq place n);
-        indexed = λ place lt. ⊎_elim
-            (λ (is : place ≡ n). subst (λ a. place_in new a.number ≡ place) (sym (ap (entry_in new) is ∙ here)) (noted ∙ sym is))
-            (λ (ne : place ≡ n → ⊥). subst (λ a. place_in new a.number ≡ place) (sym (entry_kept tree n e place ne))
-            (place_kept tree n e (entry_in tree place).number (numbered tree held s place (omega arith)).0 number_low (fresh tree held s e range free' place (omega arith)) ∙ s.indexed place (omega arith)))
-            (cases_eq place n);
-        all = λ a is. ⊎_elim
-            (λ (same : a.number ≡ e.number).
-            let both : Some e ≡ Some a = sym mine ∙ (ap (entry_at held') (sym same) ∙ is) in
-            let one : e ≡ a = cc in
-            subst (λ p. (p < n + 1) × (entry_in new p ≡ a)) (sym (ap (place_in new) same ∙ noted)) (omega arith, here ∙ one))
-            (λ (ne : a.number ≡ e.number → ⊥).
-            let old : entry_at held a.number ≡ Some a = sym (others a.number ne) ∙ is in
-            let there = s.all a old in
-            let low : 0 < a.number = (slot_at-some held a.number a old).0 in
-            subst (λ p. (p < n + 1) × (entry_in new p ≡ a)) (sym (place_kept tree n e a.number low number_low ne))
-            (omega (arith, there.0), entry_kept tree n e (place_in tree a.number) (λ same. omega (arith, there.0)) ∙ there.1))
-            (cases_eq a.number e.number);
+        kept = λ place lt. grind (arith, here, mine, others (entry_in tree place).number, entry_kept tree n e place, s.kept place, fresh tree held s e range free' place);
+        indexed = λ place lt. grind (arith, here, noted, entry_kept tree n e place, s.indexed place, fresh tree held s e range free' place, numbered tree held s place, place_kept tree n e (entry_in tree place).number);
+        all = λ a is. grind (arith, here, noted, mine, others a.number, s.all a, slot_at-some held a.number a, place_kept tree n e a.number, entry_kept tree n e (place_in tree a.number));
       }
 
   -- only the step up from the new entry may be out of order
