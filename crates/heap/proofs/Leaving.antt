@@ -56,34 +56,9 @@ module _ (tree : Tree) (held : Held) (s : Stands tree held) (number : ℕ) (plac
         memory = length-set tree.entries place last ∙ s.memory;
         index = length-set tree.places (last.number - 1) place ∙ s.index;
         count = omega (arith, count_set held number (Some (entry_in tree place)) None s.slotted range_taken taken_some, s.count);
-        kept = λ p pn. ⊎_elim
-            (λ (same : p ≡ place). subst (λ a. entry_at held' a.number ≡ Some a) (sym (ap (entry_in new) same ∙ (here ∙ is_last)))
-            (others (entry_in tree n).number (other_number n (omega arith) (λ e. omega arith)) ∙ s.kept n (omega arith)))
-            (λ (ne : p ≡ place → ⊥). subst (λ a. entry_at held' a.number ≡ Some a) (sym (entry_kept tree place last p ne))
-            (others (entry_in tree p).number (other_number p (omega arith) ne) ∙ s.kept p (omega arith)))
-            (cases_eq p place);
-        indexed = λ p pn. ⊎_elim
-            (λ (same : p ≡ place). subst (λ a. place_in new a.number ≡ p) (sym (ap (entry_in new) same ∙ here)) (noted ∙ sym same))
-            (λ (ne : p ≡ place → ⊥). subst (λ a. place_in new a.number ≡ p) (sym (entry_kept tree place last p ne))
-            (place_kept tree place last (entry_in tree p).number (numbered tree held s p (omega arith)).0 last_low
-            (λ same. apart tree held s p n (omega arith) (omega arith) (λ e. omega arith) (same ∙ ap (λ e. e.number) is_last)) ∙ s.indexed p (omega arith)))
-            (cases_eq p place);
-        all = λ a now'.
-            let other : a.number ≡ number → ⊥ = λ same. some_none a (sym now' ∙ (ap (entry_at held') same ∙ gone)) in
-            let old : entry_at held a.number ≡ Some a = sym (others a.number other) ∙ now' in
-            let there = s.all a old in
-            let p = place_in tree a.number in
-            let away : p ≡ place → ⊥ = λ same. other (ap (λ e. e.number) (sym there.1) ∙ (ap (λ q. (entry_in tree q).number) same ∙ is)) in
-            ⊎_elim
-            (λ (same : a.number ≡ last.number).
-            let atLast : p ≡ n = ap (place_in tree) same ∙ last_noted in
-            let one : last ≡ a = is_last ∙ (ap (entry_in tree) (sym atLast) ∙ there.1) in
-            subst (λ q. (q < n) × (entry_in new q ≡ a)) (sym (ap (place_in new) same ∙ noted)) (omega arith, here ∙ one))
-            (λ (ne : a.number ≡ last.number → ⊥).
-            let notLast : p ≡ n → ⊥ = λ same. ne (ap (λ e. e.number) (sym there.1) ∙ (ap (λ q. (entry_in tree q).number) same ∙ ap (λ e. e.number) (sym is_last))) in
-            subst (λ q. (q < n) × (entry_in new q ≡ a)) (sym (place_kept tree place last a.number (slot_at-some held a.number a old).0 last_low ne))
-            (omega (arith, there.0), entry_kept tree place last p away ∙ there.1))
-            (cases_eq a.number last.number);
+        kept = λ p pn. grind (arith, here, is_last, others (entry_in tree p).number, others (entry_in tree n).number, entry_kept tree place last p, s.kept p, s.kept n, other_number p, other_number n);
+        indexed = λ p pn. grind (arith, here, noted, is_last, entry_kept tree place last p, s.indexed p, numbered tree held s p, place_kept tree place last (entry_in tree p).number, apart tree held s p n);
+        all = λ a now'. grind (arith, here, noted, gone, is, is_last, last_noted, others a.number, s.all a, slot_at-some held a.number a, place_kept tree place last a.number, entry_kept tree place last (place_in tree a.number));
       }
 
   -- only the steps at the place may be out of order
