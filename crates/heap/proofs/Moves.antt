@@ -101,49 +101,6 @@ module _ (tree : Tree) (held : Held) (h : ℕ) (x : Entry) (s : Stands (laid tre
 
 -- two trees, one made from the other by an exchange
 module _ (old new : Tree) (held : Held) (h c : ℕ) (ex : Exchanged old new h c) (s : Stands old held) (hn : h < old.len) (cn : c < old.len) where
-  -- what stands at a place is still held
-  kept_after : (place : ℕ) → place < old.len → entry_at held (entry_in new place).number ≡ Some (entry_in new place)
-  kept_after place lt =
-      let P : Entry → Type 0 = λ e. entry_at held e.number ≡ Some e in
-      ⊎_elim
-      (λ (is : place ≡ h). subst P (sym (ap (entry_in new) is ∙ ex.here)) (s.kept c cn))
-      (λ (nh : place ≡ h → ⊥). ⊎_elim
-      (λ (is : place ≡ c). subst P (sym (ap (entry_in new) is ∙ ex.there)) (s.kept h hn))
-      (λ (nc : place ≡ c → ⊥). subst P (sym (ex.rest place nh nc)) (s.kept place lt))
-      (cases_eq place c))
-      (cases_eq place h)
-
-  -- the index still notes the place
-  indexed_after : (place : ℕ) → place < old.len → place_in new (entry_in new place).number ≡ place
-  indexed_after place lt =
-      let P : Entry → Type 0 = λ e. place_in new e.number ≡ place in
-      ⊎_elim
-      (λ (is : place ≡ h). subst P (sym (ap (entry_in new) is ∙ ex.here)) (ex.here_noted ∙ sym is))
-      (λ (nh : place ≡ h → ⊥). ⊎_elim
-      (λ (is : place ≡ c). subst P (sym (ap (entry_in new) is ∙ ex.there)) (ex.there_noted ∙ sym is))
-      (λ (nc : place ≡ c → ⊥). subst P (sym (ex.rest place nh nc))
-      (ex.rest_noted (entry_in old place).number (numbered old held s place lt).0 (apart old held s place h lt hn nh) (apart old held s place c lt cn nc) ∙ s.indexed place lt))
-      (cases_eq place c))
-      (cases_eq place h)
-
-  -- what is held still stands where the index notes
-  all_after : (e : Entry) → entry_at held e.number ≡ Some e → (place_in new e.number < old.len) × (entry_in new (place_in new e.number) ≡ e)
-  all_after e is =
-      let P : ℕ → Type 0 = λ place. (place < old.len) × (entry_in new place ≡ e) in
-      ⊎_elim
-      (λ (same : e.number ≡ (entry_in old h).number). subst P (sym (ap (place_in new) same ∙ ex.there_noted)) (cn, ex.there ∙ one_entry old held s e h hn is same))
-      (λ (nx : e.number ≡ (entry_in old h).number → ⊥). ⊎_elim
-      (λ (same : e.number ≡ (entry_in old c).number). subst P (sym (ap (place_in new) same ∙ ex.here_noted)) (hn, ex.here ∙ one_entry old held s e c cn is same))
-      (λ (ny : e.number ≡ (entry_in old c).number → ⊥).
-      let low : 0 < e.number = (slot_at-some held e.number e is).0 in
-      let q = place_in old e.number in
-      let it : entry_in old q ≡ e = (s.all e is).1 in
-      let nh : q ≡ h → ⊥ = λ same. nx (ap (λ a. a.number) (sym it) ∙ ap (λ p. (entry_in old p).number) same) in
-      let nc : q ≡ c → ⊥ = λ same. ny (ap (λ a. a.number) (sym it) ∙ ap (λ p. (entry_in old p).number) same) in
-      subst P (sym (ex.rest_noted e.number low nx ny)) ((s.all e is).0, ex.rest q nh nc ∙ it))
-      (cases_eq e.number (entry_in old c).number))
-      (cases_eq e.number (entry_in old h).number)
-
   -- an exchange keeps what the tree holds
   pub stands_exchanged : Stands new held
   stands_exchanged = record {
@@ -151,7 +108,7 @@ module _ (old new : Tree) (held : Held) (h c : ℕ) (ex : Exchanged old new h c)
     memory = ex.memory ∙ s.memory;
     index = ex.index ∙ s.index;
     count = ex.len ∙ s.count;
-    kept = λ place lt. kept_after place (omega (arith, ex.len));
-    indexed = λ place lt. indexed_after place (omega (arith, ex.len));
-    all = λ e is. let after = all_after e is in (omega (arith, ex.len, after.0), after.1);
+    kept = λ place lt. grind (arith, ex.len, ex.here, ex.there, ex.rest place, s.kept place, s.kept h, s.kept c);
+    indexed = λ place lt. grind (arith, ex.len, ex.here, ex.there, ex.here_noted, ex.there_noted, ex.rest place, ex.rest_noted (entry_in old place).number, s.indexed place, numbered old held s place, apart old held s place h, apart old held s place c);
+    all = λ e is. grind (arith, ex.len, ex.here, ex.there, ex.here_noted, ex.there_noted, ex.rest (place_in old e.number), ex.rest_noted e.number, s.all e, slot_at-some held e.number e, one_entry old held s e h, one_entry old held s e c);
   }
