@@ -1,5 +1,5 @@
 -- Put: the tree with a new entry behind its last.
-use Rattle.std.proofs.Common.{◌≡◌, ℕ, ◌+◌, ◌-◌, ◌<◌, ◌≤◌, Bool, true, set, is_some, not, Some, None, count_by, sym, ap, ◌∙◌, subst, ⊎_elim, arith, length-set}
+use Rattle.std.proofs.Common.{◌≡◌, ℕ, ◌+◌, ◌-◌, ◌<◌, ◌≤◌, Bool, true, set, is_some, not, Some, None, count_by, sym, ap, ◌∙◌, arith, length-set}
 use Rattle.heap.proofs.Paths.{as_held, by}
 use Rattle.heap.proofs.Moves.{entry_kept, entry_laid, place_kept, place_laid, resized}
 use Rattle.heap.proofs.Standing.{count_set, held_is, numbered, some_none}
@@ -11,7 +11,7 @@ use Rattle.order.specs.declared.entries.Entry.{Entry}
 use Rattle.ready.proofs.Slots.{entry_at-set_other, entry_at-set_same, slot_at-some, none_from_empty, number_high, slot_back, slotted_set}
 use Rattle.ready.specs.Held.{Held, entry_at, free, holds, put_in}
 use Rattle.std.proofs.lemmas.List.Sums.{count_by-le-length}
-use Rattle.std.proofs.lemmas.Bool.{and_parts, cases_eq, cond-true, not-true}
+use Rattle.std.proofs.lemmas.Bool.{and_parts, cond-true, not-true}
 
 -- the tree with an entry behind its last, which is still to sift up
 abbrev pub grown : (tree : Tree) → tree.len + 1 ≤ 64 → Entry → Tree

@@ -1,5 +1,5 @@
 -- Take out: the tree with its last entry in the place of the one that leaves.
-use Rattle.std.proofs.Common.{◌≡◌, ℕ, ◌-◌, ◌<◌, ◌≤◌, Bool, true, set, is_some, Some, None, sym, refl, ap, ◌∙◌, subst, ⊎_elim, arith, length-set}
+use Rattle.std.proofs.Common.{◌≡◌, ℕ, ◌-◌, ◌<◌, ◌≤◌, Bool, true, set, is_some, Some, None, sym, refl, ap, ◌∙◌, subst, arith, length-set}
 use Rattle.heap.proofs.Paths.{as_held, by, linked}
 use Rattle.heap.proofs.Moves.{entry_kept, entry_laid, place_kept, place_laid, resized}
 use Rattle.heap.proofs.Standing.{apart, count_set, held_is, numbered, some_none}
@@ -11,7 +11,7 @@ use Rattle.order.specs.declared.entries.Entry.{Entry}
 use Rattle.ready.proofs.Slots.{entry_at-set_other, entry_at-set_same, slot_at-some, range_from, slot_back, slotted_set}
 use Rattle.ready.specs.Held.{Held, entry_at, holds, taken_out}
 use Rattle.std.proofs.lemmas.List.{set-get_or}
-use Rattle.std.proofs.lemmas.Bool.{cases_eq, cond-true}
+use Rattle.std.proofs.lemmas.Bool.{cond-true}
 
 -- the tree without its last place, and that entry in another place, where it is still to settle
 abbrev pub filled : (tree : Tree) → tree.len - 1 ≤ 64 → ℕ → Entry → Tree

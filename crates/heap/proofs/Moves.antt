@@ -1,12 +1,11 @@
 -- Moves of entries in the tree: what a write changes, and that an exchange of two entries keeps what the tree holds.
-use Rattle.std.proofs.Common.{◌≡◌, ℕ, ◌-◌, ◌<◌, ◌≤◌, length, Some, sym, refl, ap, ◌∙◌, subst, ⊎_elim, arith, length-set, get_or-set_other, get_or-set_same}
+use Rattle.std.proofs.Common.{◌≡◌, ℕ, ◌-◌, ◌<◌, ◌≤◌, length, sym, refl, ap, ◌∙◌, subst, arith, length-set, get_or-set_other, get_or-set_same}
 use Rattle.heap.proofs.Standing.{apart, numbered, one_entry}
 use Rattle.heap.specs.Sound.{Stands, entry_in, laid, place_in}
 use Rattle.heap.specs.declared.memory.Tree.{Tree}
 use Rattle.order.specs.declared.entries.Entry.{Entry}
 use Rattle.ready.proofs.Slots.{slot_at-some}
-use Rattle.ready.specs.Held.{Held, entry_at}
-use Rattle.std.proofs.lemmas.Bool.{cases_eq}
+use Rattle.ready.specs.Held.{Held}
 
 -- a tree cut off or grown to another length
 abbrev pub resized : (tree : Tree) (len : ℕ) → len ≤ 64 → Tree
@@ -78,25 +77,17 @@ module _ (tree : Tree) (held : Held) (h : ℕ) (x : Entry) (s : Stands (laid tre
         let mid = laid tree h y in
         let old = laid tree h x in
         let new = laid mid c x in
-        let en : length mid.entries ≡ length tree.entries = length-set tree.entries h y in
-        let pn : length mid.places ≡ length tree.places = length-set tree.places (y.number - 1) h in
         let isY : entry_in old c ≡ y = entry_kept tree h x c ne in
-        let isX : entry_in old h ≡ x = in_hole in
         record {
           len = refl;
-          memory = length-set mid.entries c x ∙ (en ∙ sym (length-set tree.entries h x));
-          index = length-set mid.places (x.number - 1) c ∙ (pn ∙ sym (length-set tree.places (x.number - 1) h));
-          here = entry_kept mid c x h (λ same. ne (sym same)) ∙ (entry_laid tree h y hole_low ∙ sym isY);
-          there = entry_laid mid c x (omega (arith, en, memory_long, tree.room)) ∙ sym isX;
-          rest = λ place nh nc. entry_kept mid c x place nc ∙ (entry_kept tree h y place nh ∙ sym (entry_kept tree h x place nh));
-          here_noted = ap (λ e. place_in new e.number) isY ∙ (place_kept mid c x y.number pulled_number.0 moved_number.0 two_numbers
-              ∙ place_laid tree h y (omega (arith, pulled_number.0, pulled_number.1, index_long)));
-          there_noted = ap (λ e. place_in new e.number) isX ∙ place_laid mid c x (omega (arith, pn, moved_number.0, moved_number.1, index_long));
-          rest_noted = λ number low nx ny.
-              let apartX : number ≡ x.number → ⊥ = λ same. nx (same ∙ ap (λ e. e.number) (sym isX)) in
-              let apartY : number ≡ y.number → ⊥ = λ same. ny (same ∙ ap (λ e. e.number) (sym isY)) in
-              place_kept mid c x number low moved_number.0 apartX
-              ∙ (place_kept tree h y number low pulled_number.0 apartY ∙ sym (place_kept tree h x number low moved_number.0 apartX));
+          memory = grind (arith, length-set {A = Entry});
+          index = grind (arith, length-set {A = ℕ});
+          here = grind (arith, isY, entry_kept mid c x h, entry_laid tree h y hole_low);
+          there = grind (arith, in_hole, entry_laid mid c x, length-set tree.entries h y, memory_long);
+          rest = λ place nh nc. grind (arith, entry_kept mid c x place, entry_kept tree h y place, entry_kept tree h x place);
+          here_noted = grind (arith, isY, two_numbers, pulled_number, moved_number, place_kept mid c x y.number, place_laid tree h y, index_long);
+          there_noted = grind (arith, in_hole, moved_number, place_laid mid c x, length-set tree.places (y.number - 1) h, index_long);
+          rest_noted = λ number low nx ny. grind (arith, isY, in_hole, pulled_number, moved_number, place_kept mid c x number, place_kept tree h y number, place_kept tree h x number);
         }
 
 -- two trees, one made from the other by an exchange
