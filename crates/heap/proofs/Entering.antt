@@ -2,7 +2,7 @@
 use Rattle.std.proofs.Common.{◌≡◌, ℕ, ◌+◌, ◌-◌, ◌<◌, ◌≤◌, Bool, true, set, is_some, not, Some, None, count_by, sym, ap, ◌∙◌, arith, length-set}
 use Rattle.heap.proofs.Paths.{as_held, by}
 use Rattle.heap.proofs.Moves.{entry_kept, entry_laid, place_kept, place_laid, resized}
-use Rattle.heap.proofs.Standing.{count_set, held_is, numbered, some_none}
+use Rattle.heap.proofs.Standing.{count_set, held_is, numbered}
 use Rattle.heap.specs.Sifts.{Holed}
 use Rattle.heap.specs.Sound.{Ordered, Sound, Stands, entry_in, held_in, laid, parent, place_in}
 use Rattle.heap.specs.declared.memory.Tree.{Tree}
@@ -21,7 +21,7 @@ grown tree room e = laid (resized tree (tree.len + 1) room) tree.len e
 module _ (tree : Tree) (held : Held) (s : Stands tree held) (e : Entry) (range : in_range e.number ≡ true) (free' : entry_at held e.number ≡ None) where
   -- no entry of the tree has the new one's number
   fresh : (place : ℕ) → place < tree.len → (entry_in tree place).number ≡ e.number → ⊥
-  fresh place lt same = some_none (entry_in tree place) (sym (s.kept place lt) ∙ (ap (entry_at held) same ∙ free'))
+  fresh place lt same = grind (arith, s.kept place)
 
   -- one entry more is held
   counted : count_by is_some (set held (e.number - 1) (Some e)) + 0 ≡ count_by is_some held + 1

@@ -2,34 +2,27 @@
 use Rattle.std.proofs.Common.{◌≡◌, ℕ, ◌-◌, ◌<◌, ◌≤◌, Bool, true, set, is_some, Some, None, sym, refl, ap, ◌∙◌, subst, arith, length-set}
 use Rattle.heap.proofs.Paths.{as_held, by, linked}
 use Rattle.heap.proofs.Moves.{entry_kept, entry_laid, place_kept, place_laid, resized}
-use Rattle.heap.proofs.Standing.{apart, count_set, held_is, numbered, some_none}
+use Rattle.heap.proofs.Standing.{apart, count_set, held_is, numbered}
 use Rattle.heap.specs.Sifts.{Holed}
 use Rattle.heap.specs.Sound.{Ordered, Sound, Stands, entry_in, held_in, laid, parent, place_in}
 use Rattle.heap.specs.declared.memory.Tree.{Tree}
 use Rattle.order.specs.Orders.{Lawful, in_range}
 use Rattle.order.specs.declared.entries.Entry.{Entry}
-use Rattle.ready.proofs.Slots.{entry_at-set_other, entry_at-set_same, slot_at-some, range_from, slot_back, slotted_set}
+use Rattle.ready.proofs.Slots.{entry_at-set_other, entry_at-set_same, slot_at-some, range_from, slotted_set}
 use Rattle.ready.specs.Held.{Held, entry_at, holds, taken_out}
 use Rattle.std.proofs.lemmas.List.{set-get_or}
 use Rattle.std.proofs.lemmas.Bool.{cond-true}
+use Rattle.std.proofs.lemmas.Option.{none-some}
 
 -- the tree without its last place, and that entry in another place, where it is still to settle
 abbrev pub filled : (tree : Tree) → tree.len - 1 ≤ 64 → ℕ → Entry → Tree
 filled tree room place last = laid (resized tree (tree.len - 1) room) place last
 
--- a tree, one of its places, the number there, and the last entry
-module _ (tree : Tree) (held : Held) (s : Stands tree held) (number : ℕ) (place : ℕ) (lt : place < tree.len) (is : (entry_in tree place).number ≡ number) (last : Entry) (is_last : last ≡ entry_in tree (tree.len - 1)) (room : tree.len - 1 ≤ 64) where
-  -- the number is a task number
-  range_taken : in_range number ≡ true
-  range_taken = subst (λ n. in_range n ≡ true) is (range_from (entry_in tree place).number (numbered tree held s place lt))
-
-  -- and is held
-  taken_some : entry_at held number ≡ Some (entry_in tree place)
-  taken_some = ap (entry_at held) (sym is) ∙ s.kept place lt
-
-  -- every other entry of the tree has another number
-  other_number : (p : ℕ) → p < tree.len → (p ≡ place → ⊥) → (entry_in tree p).number ≡ number → ⊥
-  other_number p pn ne same = apart tree held s p place pn lt ne (same ∙ sym is)
+-- a tree, one of its places, and the last entry
+module _ (tree : Tree) (held : Held) (s : Stands tree held) (place : ℕ) (lt : place < tree.len) (last : Entry) (is_last : last ≡ entry_in tree (tree.len - 1)) (room : tree.len - 1 ≤ 64) where
+  -- the number at the place is a task number
+  range_taken : in_range (entry_in tree place).number ≡ true
+  range_taken = range_from (entry_in tree place).number (numbered tree held s place lt)
 
   -- the number of the last entry is not 0
   last_low : 0 < last.number
@@ -40,29 +33,30 @@ module _ (tree : Tree) (held : Held) (s : Stands tree held) (number : ℕ) (plac
   last_noted = ap (λ e. place_in tree e.number) is_last ∙ s.indexed (tree.len - 1) (omega arith)
 
   -- the tree holds what it held but for the number
-  stands_take : Stands (filled tree room place last) (set held (number - 1) None)
+  stands_take : Stands (filled tree room place last) (set held ((entry_in tree place).number - 1) None)
   stands_take =
       let n = tree.len - 1 in
+      let number = (entry_in tree place).number in
       let held' = set held (number - 1) None in
       let new = filled tree room place last in
-      let low : 0 < number = omega (arith, slot_back held number (sym range_taken)) in
+      let low : 0 < number = (numbered tree held s place lt).0 in
       let here : entry_in new place ≡ last = entry_laid tree place last (omega (arith, tree.room, s.memory)) in
       let lastHigh : last.number ≤ 64 = subst (λ e. e.number ≤ 64) (sym is_last) (numbered tree held s n (omega arith)).1 in
       let noted : place_in new last.number ≡ place = place_laid tree place last (omega (arith, last_low, s.index)) in
       let gone : entry_at held' number ≡ None = entry_at-set_same held number None s.slotted range_taken in
       let others : (m : ℕ) → (m ≡ number → ⊥) → entry_at held' m ≡ entry_at held m = λ m ne. entry_at-set_other held number m None low ne in
       record {
-        slotted = slotted_set held (number - 1) None s.slotted (λ a none'. absurd (some_none a (sym none')));
+        slotted = slotted_set held (number - 1) None s.slotted (λ a none'. absurd (none-some a none'));
         memory = length-set tree.entries place last ∙ s.memory;
         index = length-set tree.places (last.number - 1) place ∙ s.index;
-        count = omega (arith, count_set held number (Some (entry_in tree place)) None s.slotted range_taken taken_some, s.count);
-        kept = λ p pn. grind (arith, here, is_last, others (entry_in tree p).number, others (entry_in tree n).number, entry_kept tree place last p, s.kept p, s.kept n, other_number p, other_number n);
+        count = omega (arith, count_set held number (Some (entry_in tree place)) None s.slotted range_taken (s.kept place lt), s.count);
+        kept = λ p pn. grind (arith, here, is_last, others (entry_in tree p).number, others (entry_in tree n).number, entry_kept tree place last p, s.kept p, s.kept n, apart tree held s p place, apart tree held s n place);
         indexed = λ p pn. grind (arith, here, noted, is_last, entry_kept tree place last p, s.indexed p, numbered tree held s p, place_kept tree place last (entry_in tree p).number, apart tree held s p n);
-        all = λ a now'. grind (arith, here, noted, gone, is, is_last, last_noted, others a.number, s.all a, slot_at-some held a.number a, place_kept tree place last a.number, entry_kept tree place last (place_in tree a.number));
+        all = λ a now'. grind (arith, here, noted, gone, is_last, last_noted, others a.number, s.all a, slot_at-some held a.number a, place_kept tree place last a.number, entry_kept tree place last (place_in tree a.number));
       }
 
   -- only the steps at the place may be out of order
-  holed_take : (before : Entry → Entry → Bool) → Lawful before → Ordered before tree → place < tree.len - 1 → Holed before (set held (number - 1) None) (filled tree room place last) place
+  holed_take : (before : Entry → Entry → Bool) → Lawful before → Ordered before tree → place < tree.len - 1 → Holed before (set held ((entry_in tree place).number - 1) None) (filled tree room place last) place
   holed_take before laws ordered in' = record {
     stands = stands_take;
     within = in';
@@ -96,13 +90,13 @@ leaving before laws tree ok place within last is_last room =
     let held = held_in tree in
     let held' = set held (number - 1) None in
     let cut = resized tree (tree.len - 1) room in
-    let s : Stands (filled tree room place last) held' = stands_take tree held ok.stands number place within refl last is_last room in
+    let s : Stands (filled tree room place last) held' = stands_take tree held ok.stands place within last is_last room in
     let list : held_in (filled tree room place last) ≡ taken_out held number = held_is (filled tree room place last) held' s ∙ sym (cond-true (holds held number) held' held (ap is_some (ok.stands.kept place within))) in
     record {
       list = list;
-      holed = λ in'. as_held before (filled tree room place last) held' place (holed_take tree held ok.stands number place within refl last is_last room before laws ok.ordered in');
+      holed = λ in'. as_held before (filled tree room place last) held' place (holed_take tree held ok.stands place within last is_last room before laws ok.ordered in');
       rest = λ out.
-          let same : filled tree room place last ≡ cut = last_taken tree held ok.stands number place within refl last is_last room (omega arith) in
+          let same : filled tree room place last ≡ cut = last_taken tree held ok.stands place within last is_last room (omega arith) in
           let alone : Stands cut held' = subst (λ t. Stands t held') same s in (
             ap held_in (sym same) ∙ list,
             record { stands = subst (Stands cut) (sym (held_is cut held' alone)) alone; ordered = λ k lk kn. ok.ordered k lk (omega arith) },

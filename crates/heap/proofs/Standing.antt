@@ -12,10 +12,6 @@ use Rattle.std.proofs.lemmas.List.{ext_get_or}
 use Rattle.std.proofs.lemmas.List.Sums.{sum_by-set}
 use Rattle.std.proofs.lemmas.Bool.Decides.{nat_tests}
 
--- something is not nothing
-pub some_none : {A : Type 0} (x : A) → ◌≡◌ {A = Option A} (Some x) None → ⊥
-some_none x is = let z : ◌≡◌ {A = ℕ} 0 1 = cc in omega arith
-
 -- a tree, and what stands in it
 module _ (tree : Tree) (held : Held) (s : Stands tree held) where
   -- an entry of the tree has a task number

@@ -2,7 +2,7 @@
 use Rattle.std.proofs.Common.{◌≡◌, ℕ, ◌⊎◌, inl, inr, ◌+◌, ◌<◌, Bool, true, false, ◌&&◌, ltb, cond, is_some, Some, None, Option, ◌-◌, sym, refl, ap, ◌∙◌, subst, ⊎_elim, arith}
 use Rattle.heap.proofs.Paths.{by, linked, risen, sound, sunk, turned}
 use Rattle.heap.proofs.Moves.{Exchanged, entry_kept, in_hole, moved_number, pulled, pulled_number}
-use Rattle.heap.proofs.Standing.{apart, held_is, some_none}
+use Rattle.heap.proofs.Standing.{apart, held_is}
 use Rattle.heap.specs.Sifts.{AfterParent, BeforeChildren, Holed, first_child, next_place, rises, sinks_to}
 use Rattle.heap.specs.Sound.{Sound, entry_in, held_in, laid, left_child, parent}
 use Rattle.heap.specs.declared.memory.Tree.{Tree}
@@ -11,6 +11,7 @@ use Rattle.order.specs.declared.entries.Entry.{Entry}
 use Rattle.ready.proofs.Slots.{range_from}
 use Rattle.ready.specs.Held.{Held}
 use Rattle.std.proofs.lemmas.Bool.Decides.{nat_tests}
+use Rattle.std.proofs.lemmas.Option.{none-some}
 use Rattle.std.proofs.lemmas.Bool.{cases_Bool, cases_eq, false_from_ne_true, lt-ltb, true≢false}
 
 -- how many turns a sift may still take at a place: it goes up, or down, or has no place to go to
@@ -147,7 +148,7 @@ module _ (before : Entry → Entry → Bool) (laws : Lawful before) (tree : Tree
   -- a tree is in order once the moved entry is written where it fits
   pub ends : (new : Tree) → new ≡ laid tree h x → None ≡ next_place before tree h x → (held_in new ≡ held) × Sound before new
   ends new wrote is = ⊎_elim
-      (λ (up : (rises before tree h x ≡ true) × (◌≡◌ {A = Option ℕ} None (Some (parent h)))). absurd (some_none (parent h) (sym up.1)))
+      (λ (up : (rises before tree h x ≡ true) × (◌≡◌ {A = Option ℕ} None (Some (parent h)))). absurd (none-some (parent h) up.1))
       (λ (down : (rises before tree h x ≡ false) × (None ≡ sinks_to before tree h x)).
       subst (λ t. (held_in t ≡ held) × Sound before t) (sym wrote) (held_is (laid tree h x) held o.stands, sound before laws (laid tree h x) held h o (rests_below down.1) (rests_above (sym down.0))))
       (next_is None is)

@@ -7,6 +7,7 @@ use order::entries::{Entry, slot_of};
 
 // Place 0 is the root; the children of place p are the places 2p + 1 and 2p + 2. What stands at
 // places from `len` on, and what the index says of a number that is not held, has no meaning.
+// Two arrays, since one goes by place and the other by number; of fixed size, as no heap may be used.
 #[derive(Drop)]
 pub struct Tree {
     pub(crate) entries: [Entry; 64],

@@ -13,9 +13,10 @@ use order::ties::TieOrder;
 fn parent(place: usize) -> Option<usize>
     ensures { result ≡ above place }
 {
-    place.checked_sub(1).map(|before| before / 2)
+    place.checked_sub(1).map(|rest| rest / 2)
 }
 
+// The hole and the entry stay two parameters: a struct of them would be taken apart at each look at the tree.
 impl Tree {
     // The place above the hole, where the entry comes before what stands there.
     fn rises<O: TieOrder>(&self, hole: usize, e: Entry) -> Option<usize>
@@ -48,7 +49,7 @@ impl Tree {
             .filter(|child| O::comes_before(self.entry(*child), e))
     }
 
-    // The place that is to change with the hole, for an entry that may not stand in it.
+    // The place that the hole is to move to, unless the entry may stand in it.
     fn next<O: TieOrder>(&self, hole: usize, e: Entry) -> Option<usize>
         requires { hole < 64 }
         ensures { result ≡ next_place O.TieOrder.before self.now hole e }
