@@ -5,7 +5,7 @@ use Rattle.heap.specs.declared.memory.Tree.{Tree}
 use Rattle.order.specs.Orders.{Apart, in_range}
 use Rattle.order.specs.declared.entries.Entry.{Entry}
 use Rattle.ready.proofs.First.{none_holds}
-use Rattle.ready.proofs.Slots.{entry_slot, entry_at-in, entry_at-number, slot_at-some, number_high, slot_back, slotted_none}
+use Rattle.ready.proofs.Slots.{entry_slot, entry_at-number, slot_at-some, number_high, range_from, slot_back, slotted_none}
 use Rattle.ready.specs.Held.{Held, Slotted, entry_at, none}
 use Rattle.std.proofs.lemmas.List.FromFn.{get_or-map-range_with_len, length-map-range_with_len}
 use Rattle.std.proofs.lemmas.List.{ext_get_or}
@@ -42,7 +42,7 @@ module _ (tree : Tree) (held : Held) (s : Stands tree held) where
       let back : k + 1 - 1 ≡ k = omega arith in
       get_or-map-range_with_len (slot_in tree) 1 64 k (k + 1) None in' (omega arith)
       ∙ (slot_as (k + 1) (entry_at held (k + 1)) refl
-      ∙ (entry_at-in held (k + 1) (omega arith) (omega arith) ∙ ap (λ n. get_or held n None) back)))
+      ∙ (entry_slot held (k + 1) (range_from (k + 1) (omega arith, omega arith)) ∙ ap (λ n. get_or held n None) back)))
 
 -- a write to a slot changes the count by what it writes and what it replaces
 pub count_set : (held : Held) (number : ℕ) (old new : Option Entry) → Slotted held → in_range number ≡ true → entry_at held number ≡ old
