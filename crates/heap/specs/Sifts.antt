@@ -35,6 +35,7 @@ abbrev pub first_child : (Entry → Entry → Bool) → Tree → ℕ → ℕ
 first_child before tree hole =
     cond (nat_lt (left_child hole + 1) tree.len && before (entry_in tree (left_child hole + 1)) (entry_in tree (left_child hole))) (left_child hole + 1) (left_child hole)
 
+-- the same of any place
 abbrev pub child_of : (Entry → Entry → Bool) → Tree → ℕ → Option ℕ
 child_of before tree hole = cond (nat_lt (left_child hole) tree.len) (Some (first_child before tree hole)) None
 
@@ -42,6 +43,6 @@ child_of before tree hole = cond (nat_lt (left_child hole) tree.len) (Some (firs
 abbrev pub sinks_to : (Entry → Entry → Bool) → Tree → ℕ → Entry → Option ℕ
 sinks_to before tree hole e = cond (nat_lt (left_child hole) tree.len && before (entry_in tree (first_child before tree hole)) e) (Some (first_child before tree hole)) None
 
--- the place that an entry is to change with the hole, where it may not stand in it
+-- the place that the hole is to move to, unless the entry may stand in it
 abbrev pub next_place : (Entry → Entry → Bool) → Tree → ℕ → Entry → Option ℕ
 next_place before tree hole e = cond (rises before tree hole e) (Some (parent hole)) (sinks_to before tree hole e)

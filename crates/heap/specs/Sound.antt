@@ -1,5 +1,5 @@
 -- What the heap's memory means, and when it is in order.
-use Rattle.std.specs.Prelude.{◌≡◌, ℕ, ◌+◌, ◌-◌, ◌*◌, ◌/◌, ◌<◌, ◌≤◌, Bool, true, cond, ◌&&◌, map, length, is_some, Some, None, count_by, Option, ◌==◌, nat_lt, slice_index, slice_index_or, slice_set}
+use Rattle.std.specs.Prelude.{◌≡◌, ℕ, ◌+◌, ◌-◌, ◌*◌, ◌/◌, ◌<◌, Bool, true, cond, ◌&&◌, map, length, is_some, Some, None, count_by, Option, ◌==◌, nat_lt, slice_index, slice_index_or, slice_set}
 use Rattle.heap.specs.declared.memory.Tree.{Tree}
 use Rattle.order.specs.declared.entries.Entry.{Entry}
 use Rattle.ready.specs.Held.{Held, Slotted, entry_at}
@@ -26,7 +26,7 @@ place_in tree number = slice_index tree.places (number - 1)
 
 -- the tree with an entry at a place, and the place noted in the index
 abbrev pub laid : Tree → ℕ → Entry → Tree
-laid tree place e = record { entries = slice_set tree.entries place e; places = slice_set tree.places (e.number - 1) place; len = tree.len }
+laid tree place e = record tree { entries = slice_set tree.entries place e; places = slice_set tree.places (e.number - 1) place }
 
 -- whether the index notes a place of the tree for a number, and the entry there has the number
 abbrev pub found : Tree → ℕ → Bool
@@ -54,7 +54,6 @@ pub record Stands (tree : Tree) (held : Held) : Type 0 where
   pub slotted : Slotted held
   pub memory : length tree.entries ≡ 64
   pub index : length tree.places ≡ 64
-  pub room : tree.len ≤ 64
   -- there are as many places as entries
   pub count : tree.len ≡ count_by is_some held
   -- what stands at a place is held

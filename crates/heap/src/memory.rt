@@ -1,6 +1,5 @@
 // The memory of the heap: a binary tree laid out in an array, and an index of it by task number.
-ghost use Rattle.std.specs.Prelude.{◌≡◌, ◌<◌, true, length, is_some, IfSome};
-ghost use Rattle.heap.specs.Sound.{IsPlaceOf, Stands, entry_in, held_in, laid, root_of};
+ghost use Rattle.std.specs.Prelude.{◌≡◌, ◌<◌, ◌≤◌, true, length, is_some, IfSome};
 ghost use Rattle.order.specs.Orders.{in_range};
 ghost use Rattle.ready.specs.Held.{holds};
 
@@ -8,14 +7,18 @@ use order::entries::{Entry, slot_of};
 
 // Place 0 is the root; the children of place p are the places 2p + 1 and 2p + 2. What stands at
 // places from `len` on, and what the index says of a number that is not held, has no meaning.
+// Two arrays, since one goes by place and the other by number; of fixed size, as no heap may be used.
 #[derive(Drop)]
 pub struct Tree {
     pub(crate) entries: [Entry; 64],
     pub(crate) places: [usize; 64],
     pub(crate) len: usize,
+    ghost room: { len ≤ 64 },
 }
 
 impl Tree {
+    ghost use Rattle.heap.specs.Sound.{IsPlaceOf, Stands, entry_in, held_in, laid, root_of};
+
     // A tree without entries.
     pub fn new() -> Tree
         ensures entries { length result.entries ≡ 64 }

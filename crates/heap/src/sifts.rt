@@ -13,9 +13,10 @@ use order::ties::TieOrder;
 fn parent(place: usize) -> Option<usize>
     ensures { result ≡ above place }
 {
-    place.checked_sub(1).map(|before| before / 2)
+    place.checked_sub(1).map(|rest| rest / 2)
 }
 
+// The hole and the entry stay two parameters: a struct of them would be taken apart at each look at the tree.
 impl Tree {
     // The place above the hole, where the entry comes before what stands there.
     fn rises<O: TieOrder>(&self, hole: usize, e: Entry) -> Option<usize>
@@ -27,8 +28,7 @@ impl Tree {
 
     // The child that comes first, of a place that has one.
     fn first_child<O: TieOrder>(&self, hole: usize) -> Option<usize>
-        requires within { hole < 64 }
-        requires room { self.now.len ≤ 64 }
+        requires { hole < 64 }
         ensures { result ≡ child_of O.TieOrder.before self.now hole }
     {
         let left = 2 * hole + 1;
@@ -42,18 +42,16 @@ impl Tree {
 
     // The first child of the hole, where it comes before the entry.
     fn sinks<O: TieOrder>(&self, hole: usize, e: Entry) -> Option<usize>
-        requires within { hole < 64 }
-        requires room { self.now.len ≤ 64 }
+        requires { hole < 64 }
         ensures { result ≡ sinks_to O.TieOrder.before self.now hole e }
     {
         self.first_child::<O>(hole)
             .filter(|child| O::comes_before(self.entry(*child), e))
     }
 
-    // The place that is to change with the hole, for an entry that may not stand in it.
+    // The place that the hole is to move to, unless the entry may stand in it.
     fn next<O: TieOrder>(&self, hole: usize, e: Entry) -> Option<usize>
-        requires within { hole < 64 }
-        requires room { self.now.len ≤ 64 }
+        requires { hole < 64 }
         ensures { result ≡ next_place O.TieOrder.before self.now hole e }
     {
         self.rises::<O>(hole, e)

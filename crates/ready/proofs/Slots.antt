@@ -3,7 +3,7 @@ use Rattle.std.proofs.Common.{◌≡◌, ℕ, ◌+◌, ◌-◌, ◌<◌, ◌≤�
 use lib.ListN.{length-replicate}
 use Rattle.order.specs.Orders.{in_range}
 use Rattle.order.specs.declared.entries.Entry.{Entry}
-use Rattle.ready.specs.Held.{Held, PlacedBy, Slotted, entry_at, slot_at, free, holds, none, put_in, taken_out}
+use Rattle.ready.specs.Held.{Held, PlacedBy, Slotted, entry_at, slot_at, none, put_in, taken_out}
 use Rattle.std.proofs.lemmas.Bool.Decides.{nat_tests}
 use Rattle.std.proofs.lemmas.Grind.{common_steps}
 use Rattle.std.proofs.lemmas.List.{get_or-replicate, set-get_or, set-set}
@@ -17,10 +17,6 @@ module _ {A : Type 0} (number : A → ℕ) where
   pub placed_none : (n : ℕ) → PlacedBy number (replicate n None)
   placed_none n k a lt is = grind (arith, get_or-replicate {A = Option A} n k None None, length-replicate {A = Option A} n None)
 
--- the entry of a task number is what its slot holds
-pub entry_at-in : (held : Held) (number : ℕ) → 0 < number → number ≤ 64 → entry_at held number ≡ get_or held (number - 1) None
-entry_at-in held number low high = grind (arith, nat_tests)
-
 -- what a number has stands in the slot of the number
 pub slot_at-some : {A : Type 0} (slots : List (Option A)) (number : ℕ) (a : A) → slot_at slots number ≡ Some a → (0 < number) × (number ≤ 64) × (get_or slots (number - 1) None ≡ Some a)
 slot_at-some slots number a is = grind (arith, nat_tests)
@@ -32,17 +28,8 @@ slotted_set held i x s new = record { many = length-set held i x ∙ s.many; pla
 pub slotted_none : Slotted none
 slotted_none = record { many = refl; placed = placed_none {A = Entry} (λ e. e.number) 64 }
 
--- a task number whose slot is empty is free, one whose slot is full is held
+-- the bounds of a task number
 module _ (held : Held) (number : ℕ) (range : true ≡ in_range number) where
-  pub free_yes : false ≡ is_some (get_or held (number - 1) None) → true ≡ free held number
-  free_yes empty = cc
-
-  pub holds_slot : is_some (get_or held (number - 1) None) ≡ holds held number
-  holds_slot = cc
-
-  number_low : 0 < number
-  number_low = grind (arith, nat_tests)
-
   pub number_high : number ≤ 64
   number_high = grind (arith, nat_tests)
 
@@ -57,7 +44,7 @@ none_from_empty (Some e) is = cc
 
 -- take out leaves the slot empty, whether or not it was
 pub taken_set : (held : Held) (number : ℕ) → in_range number ≡ true → taken_out held number ≡ set held (number - 1) None
-taken_set held number range = grind (arith, holds_slot held number (sym range), set-get_or held (number - 1) None, none_from_empty (get_or held (number - 1) None))
+taken_set held number range = grind (arith, set-get_or held (number - 1) None, none_from_empty (get_or held (number - 1) None))
 
 -- put fills an empty slot
 pub put_set : (held : Held) (e : Entry) → Slotted held → in_range e.number ≡ true → put_in (set held (e.number - 1) None) e ≡ set held (e.number - 1) (Some e)
