@@ -2,11 +2,11 @@
 ghost use Rattle.std.specs.Prelude.{◌≡◌, map};
 ghost use Rattle.calls.specs.Answering.{after, answer_to, rest_answer, rest_next, start as started, turn_answer, turn_next};
 ghost use Rattle.calls.specs.Asking.{asked_by, begin as asks_begin, settle as asks_settle};
-ghost use Rattle.calls.specs.Stages.{TiedAt, state_of};
+ghost use Rattle.calls.specs.Stages.{TiedAt, TiedTo, state_of};
 ghost use Rattle.controller.specs.Tied.{Open, Tied};
 ghost use Rattle.rules.specs.Tasks.{entry_of};
 
-use crate::exchanges::{Answer, Call, said_of, said_of_make, said_of_withdraw};
+use crate::exchanges::{Answer, Call, Denial, Reply};
 use controller::make::{make, start};
 use controller::memory::TaskMemory;
 use controller::states::{OpenTurn, Resting};
@@ -28,9 +28,9 @@ fn open_turn<L: ReadyList>(rest: Resting, memory: &TaskMemory, list: &L) -> (Sta
     match rest.begin(memory, list) {
         Ok(opened) => {
             let turn = opened.turn();
-            (Stage::Turning(opened), Answer::Opened(turn))
+            (Stage::Turning(opened), Ok(Reply::Opened(turn)))
         }
-        Err((rest, why)) => (Stage::Rest(rest), Answer::Refused(why)),
+        Err((rest, why)) => (Stage::Rest(rest), Err(why.into())),
     }
 }
 
@@ -50,22 +50,22 @@ fn answer_at_rest<L: ReadyList>(
         Call::Make { sheet } => {
             let _ = rest.retire();
             let (rest, made) = make(sheet, memory, list);
-            (Stage::Rest(rest), said_of_make(made))
+            (Stage::Rest(rest), made.map(Reply::Made).map_err(Denial::from))
         }
         Call::Admit { asked } => {
             let done = rest.admit(asked, memory, list);
-            (Stage::Rest(rest), said_of(done))
+            (Stage::Rest(rest), done.map(|()| Reply::Done).map_err(Denial::from))
         }
         Call::Change { number, change } => {
             let done = rest.change(number, change, memory, list);
-            (Stage::Rest(rest), said_of(done))
+            (Stage::Rest(rest), done.map(|()| Reply::Done).map_err(Denial::from))
         }
         Call::Withdraw { number } => {
             let when = rest.withdraw(number, memory, list);
-            (Stage::Rest(rest), said_of_withdraw(when))
+            (Stage::Rest(rest), when.map(Reply::Withdrawn).map_err(Denial::from))
         }
         Call::Begin => open_turn(rest, memory, list),
-        Call::Settle { .. } => (Stage::Rest(rest), Answer::OutOfPlace),
+        Call::Settle { .. } => (Stage::Rest(rest), Err(Denial::OutOfPlace)),
     }
 }
 
@@ -84,9 +84,9 @@ fn settle_turn<L: ReadyList>(
     match opened.settle(count, memory, list) {
         Ok(rest) => {
             let clock = rest.clock();
-            (Stage::Rest(rest), Answer::Settled(clock))
+            (Stage::Rest(rest), Ok(Reply::Settled(clock)))
         }
-        Err((opened, why)) => (Stage::Turning(opened), Answer::Refused(why)),
+        Err((opened, why)) => (Stage::Turning(opened), Err(why.into())),
     }
 }
 
@@ -104,11 +104,7 @@ fn answer_in_turn<L: ReadyList>(
 {
     match call {
         Call::Settle { count } => settle_turn(opened, count, memory, list),
-        Call::Make { .. } => (Stage::Turning(opened), Answer::OutOfPlace),
-        Call::Admit { .. } => (Stage::Turning(opened), Answer::OutOfPlace),
-        Call::Change { .. } => (Stage::Turning(opened), Answer::OutOfPlace),
-        Call::Withdraw { .. } => (Stage::Turning(opened), Answer::OutOfPlace),
-        Call::Begin => (Stage::Turning(opened), Answer::OutOfPlace),
+        _ => (Stage::Turning(opened), Err(Denial::OutOfPlace)),
     }
 }
 
@@ -143,7 +139,7 @@ impl Stage {
 
     // Ends a run, and tells where its clock stood; an open turn is given back unused.
     pub fn end<L: ReadyList>(self, memory: &mut TaskMemory, list: &mut L) -> u64
-        requires { TiedAt L.Order.TieOrder.before self memory.old.slots (L.ReadyList.held list.old) (L.ReadyList.ok list.old) }
+        requires { TiedTo L.ReadyList L.Order.TieOrder.before self memory.old list.old }
         ensures clock { result ≡ (state_of self memory.old.slots).clock }
         ensures tasks { memory.new.slots ≡ memory.old.slots }
         ensures list { L.ReadyList.held list.new ≡ map entry_of memory.new.slots }
