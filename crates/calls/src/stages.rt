@@ -2,8 +2,7 @@
 ghost use Rattle.std.specs.Prelude.{◌≡◌, map};
 ghost use Rattle.calls.specs.Answering.{after, answer_to, rest_answer, rest_next, start as started, turn_answer, turn_next};
 ghost use Rattle.calls.specs.Asking.{asked_by, begin as asks_begin, settle as asks_settle};
-ghost use Rattle.calls.specs.Stages.{TiedAt, TiedTo, state_of};
-ghost use Rattle.controller.specs.Tied.{Open, Tied};
+ghost use Rattle.calls.specs.Stages.{TiedTo, state_of};
 ghost use Rattle.rules.specs.Tasks.{entry_of};
 
 use crate::exchanges::{Answer, Call, Denial, Reply};
@@ -20,10 +19,10 @@ pub enum Stage {
 
 // Begins a turn, where the clock has not come to its last tick.
 fn open_turn<L: ReadyList>(rest: Resting, memory: &TaskMemory, list: &L) -> (Stage, Answer)
-    requires { Tied rest.clock memory.now.slots (L.ReadyList.held list.now) (L.ReadyList.ok list.now) }
+    requires { TiedTo L.ReadyList L.Order.TieOrder.before (Stage.Rest rest) memory.now list.now }
     ensures answer { result.1 ≡ rest_answer L.Order.TieOrder.before rest.clock memory.now.slots asks_begin }
     ensures state { state_of result.0 memory.now.slots ≡ rest_next L.Order.TieOrder.before rest.clock memory.now.slots asks_begin }
-    ensures tied { TiedAt L.Order.TieOrder.before result.0 memory.now.slots (L.ReadyList.held list.now) (L.ReadyList.ok list.now) }
+    ensures tied { TiedTo L.ReadyList L.Order.TieOrder.before result.0 memory.now list.now }
 {
     match rest.begin(memory, list) {
         Ok(opened) => {
@@ -41,28 +40,40 @@ fn answer_at_rest<L: ReadyList>(
     memory: &mut TaskMemory,
     list: &mut L,
 ) -> (Stage, Answer)
-    requires { Tied rest.clock memory.old.slots (L.ReadyList.held list.old) (L.ReadyList.ok list.old) }
+    requires { TiedTo L.ReadyList L.Order.TieOrder.before (Stage.Rest rest) memory.old list.old }
     ensures answer { result.1 ≡ rest_answer L.Order.TieOrder.before rest.clock memory.old.slots (asked_by call.entry) }
     ensures state { state_of result.0 memory.new.slots ≡ rest_next L.Order.TieOrder.before rest.clock memory.old.slots (asked_by call.entry) }
-    ensures tied { TiedAt L.Order.TieOrder.before result.0 memory.new.slots (L.ReadyList.held list.new) (L.ReadyList.ok list.new) }
+    ensures tied { TiedTo L.ReadyList L.Order.TieOrder.before result.0 memory.new list.new }
 {
     match call {
         Call::Make { sheet } => {
             let _ = rest.retire();
             let (rest, made) = make(sheet, memory, list);
-            (Stage::Rest(rest), made.map(Reply::Made).map_err(Denial::from))
+            (
+                Stage::Rest(rest),
+                made.map(Reply::Made).map_err(Denial::from),
+            )
         }
         Call::Admit { asked } => {
             let done = rest.admit(asked, memory, list);
-            (Stage::Rest(rest), done.map(|()| Reply::Done).map_err(Denial::from))
+            (
+                Stage::Rest(rest),
+                done.map(|()| Reply::Done).map_err(Denial::from),
+            )
         }
         Call::Change { number, change } => {
             let done = rest.change(number, change, memory, list);
-            (Stage::Rest(rest), done.map(|()| Reply::Done).map_err(Denial::from))
+            (
+                Stage::Rest(rest),
+                done.map(|()| Reply::Done).map_err(Denial::from),
+            )
         }
         Call::Withdraw { number } => {
             let when = rest.withdraw(number, memory, list);
-            (Stage::Rest(rest), when.map(Reply::Withdrawn).map_err(Denial::from))
+            (
+                Stage::Rest(rest),
+                when.map(Reply::Withdrawn).map_err(Denial::from),
+            )
         }
         Call::Begin => open_turn(rest, memory, list),
         Call::Settle { .. } => (Stage::Rest(rest), Err(Denial::OutOfPlace)),
@@ -76,10 +87,10 @@ fn settle_turn<L: ReadyList>(
     memory: &mut TaskMemory,
     list: &mut L,
 ) -> (Stage, Answer)
-    requires { Open L.Order.TieOrder.before opened.turn memory.old.slots (L.ReadyList.held list.old) (L.ReadyList.ok list.old) }
+    requires { TiedTo L.ReadyList L.Order.TieOrder.before (Stage.Turning opened) memory.old list.old }
     ensures answer { result.1 ≡ turn_answer opened.turn (asks_settle count) }
     ensures state { state_of result.0 memory.new.slots ≡ turn_next opened.turn memory.old.slots (asks_settle count) }
-    ensures tied { TiedAt L.Order.TieOrder.before result.0 memory.new.slots (L.ReadyList.held list.new) (L.ReadyList.ok list.new) }
+    ensures tied { TiedTo L.ReadyList L.Order.TieOrder.before result.0 memory.new list.new }
 {
     match opened.settle(count, memory, list) {
         Ok(rest) => {
@@ -97,10 +108,10 @@ fn answer_in_turn<L: ReadyList>(
     memory: &mut TaskMemory,
     list: &mut L,
 ) -> (Stage, Answer)
-    requires { Open L.Order.TieOrder.before opened.turn memory.old.slots (L.ReadyList.held list.old) (L.ReadyList.ok list.old) }
+    requires { TiedTo L.ReadyList L.Order.TieOrder.before (Stage.Turning opened) memory.old list.old }
     ensures answer { result.1 ≡ turn_answer opened.turn (asked_by call.entry) }
     ensures state { state_of result.0 memory.new.slots ≡ turn_next opened.turn memory.old.slots (asked_by call.entry) }
-    ensures tied { TiedAt L.Order.TieOrder.before result.0 memory.new.slots (L.ReadyList.held list.new) (L.ReadyList.ok list.new) }
+    ensures tied { TiedTo L.ReadyList L.Order.TieOrder.before result.0 memory.new list.new }
 {
     match call {
         Call::Settle { count } => settle_turn(opened, count, memory, list),
@@ -113,7 +124,7 @@ impl Stage {
     pub fn start<L: ReadyList>(memory: &mut TaskMemory, list: &mut L) -> Stage
         ensures state { state_of result memory.new.slots ≡ started }
         ensures list { L.ReadyList.held list.new ≡ map entry_of memory.new.slots }
-        ensures tied { TiedAt L.Order.TieOrder.before result memory.new.slots (L.ReadyList.held list.new) (L.ReadyList.ok list.new) }
+        ensures tied { TiedTo L.ReadyList L.Order.TieOrder.before result memory.new list.new }
     {
         Stage::Rest(start(memory, list))
     }
@@ -125,11 +136,11 @@ impl Stage {
         memory: &mut TaskMemory,
         list: &mut L,
     ) -> (Stage, Answer)
-        requires { TiedAt L.Order.TieOrder.before self memory.old.slots (L.ReadyList.held list.old) (L.ReadyList.ok list.old) }
+        requires { TiedTo L.ReadyList L.Order.TieOrder.before self memory.old list.old }
         ensures answer { result.1 ≡ answer_to L.Order.TieOrder.before (state_of self memory.old.slots) (asked_by call.entry) }
         ensures state { state_of result.0 memory.new.slots ≡ after L.Order.TieOrder.before (state_of self memory.old.slots) (asked_by call.entry) }
         ensures list { L.ReadyList.held list.new ≡ map entry_of memory.new.slots }
-        ensures tied { TiedAt L.Order.TieOrder.before result.0 memory.new.slots (L.ReadyList.held list.new) (L.ReadyList.ok list.new) }
+        ensures tied { TiedTo L.ReadyList L.Order.TieOrder.before result.0 memory.new list.new }
     {
         match self {
             Stage::Rest(rest) => answer_at_rest(rest, call, memory, list),
