@@ -49,31 +49,23 @@ fn answer_at_rest<L: ReadyList>(
         Call::Make { sheet } => {
             let _ = rest.retire();
             let (rest, made) = make(sheet, memory, list);
-            (
-                Stage::Rest(rest),
-                made.map(Reply::Made).map_err(Denial::from),
-            )
+            let answer = made.map(Reply::Made).map_err(Denial::from);
+            (Stage::Rest(rest), answer)
         }
         Call::Admit { asked } => {
             let done = rest.admit(asked, memory, list);
-            (
-                Stage::Rest(rest),
-                done.map(|()| Reply::Done).map_err(Denial::from),
-            )
+            let answer = done.map(|()| Reply::Done).map_err(Denial::from);
+            (Stage::Rest(rest), answer)
         }
         Call::Change { number, change } => {
             let done = rest.change(number, change, memory, list);
-            (
-                Stage::Rest(rest),
-                done.map(|()| Reply::Done).map_err(Denial::from),
-            )
+            let answer = done.map(|()| Reply::Done).map_err(Denial::from);
+            (Stage::Rest(rest), answer)
         }
         Call::Withdraw { number } => {
             let when = rest.withdraw(number, memory, list);
-            (
-                Stage::Rest(rest),
-                when.map(Reply::Withdrawn).map_err(Denial::from),
-            )
+            let answer = when.map(Reply::Withdrawn).map_err(Denial::from);
+            (Stage::Rest(rest), answer)
         }
         Call::Begin => open_turn(rest, memory, list),
         Call::Settle { .. } => (Stage::Rest(rest), Err(Denial::OutOfPlace)),
