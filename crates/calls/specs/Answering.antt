@@ -62,20 +62,12 @@ rest_next before T tasks (settle count) = at_rest T tasks
 
 -- in an open turn only settle is
 abbrev pub turn_answer : Turn → Asked → Answer
-turn_answer turn (make sheet) = Err OutOfPlace
-turn_answer turn (admit asked) = Err OutOfPlace
-turn_answer turn (change number how) = Err OutOfPlace
-turn_answer turn (withdraw number) = Err OutOfPlace
-turn_answer turn begin = Err OutOfPlace
 turn_answer turn (settle count) = cond (nat_lt turn.length count) (Err (Refused CountTooHigh)) (Ok (Settled (turn.start + count)))
+turn_answer turn asked = Err OutOfPlace
 
 abbrev pub turn_next : Turn → Tasks → Asked → State
-turn_next turn tasks (make sheet) = in_turn turn tasks
-turn_next turn tasks (admit asked) = in_turn turn tasks
-turn_next turn tasks (change number how) = in_turn turn tasks
-turn_next turn tasks (withdraw number) = in_turn turn tasks
-turn_next turn tasks begin = in_turn turn tasks
 turn_next turn tasks (settle count) = cond (nat_lt turn.length count) (in_turn turn tasks) (at_rest (turn.start + count) (settled_tasks turn count tasks))
+turn_next turn tasks asked = in_turn turn tasks
 
 -- the answer to a call, and the state after it
 abbrev pub answer_in : (Entry → Entry → Bool) → ℕ → Tasks → Option Turn → Asked → Answer
