@@ -1,9 +1,8 @@
 -- A list of calls, carried out one after another: what the loop keeps, and what it has at its end.
 use Rattle.std.proofs.Common.{◌≡◌, ℕ, ◌+◌, ◌<◌, ◌≤◌, min, Bool, List, [], ◌∷◌, ◌++◌, map, length, get_or, take, drop, set, sym, refl, ap, ◌∙◌, ⊎_elim, append_assoc, arith}
 use lib.ListN.{length-map}
-use Rattle.calls.specs.Answering.{State, after, after_all, answer_to, answers_to}
+use Rattle.calls.specs.Answering.{Answer, State, after, after_all, answer_to, answers_to}
 use Rattle.calls.specs.Asking.{Asked, asked_by}
-use Rattle.calls.specs.declared.exchanges.Answer.{Answer}
 use Rattle.calls.specs.declared.exchanges.Call.{Call}
 use Rattle.order.specs.declared.entries.Entry.{Entry}
 use Rattle.promise.specs.Carrying.{written_over}

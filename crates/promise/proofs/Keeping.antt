@@ -1,10 +1,10 @@
 -- Every call keeps the promise: the account goes along with the controller, and what it reads at each deadline is paid.
 use Rattle.std.proofs.Common.{◌≡◌, ℕ, zero, suc, ◌+◌, ◌-◌, ◌^◌, ◌<◌, ◌≤◌, Bool, true, false, cond, eqb, ltb, List, [], ◌∷◌, map, length, get_or, set, replicate, Some, None, Ok, Err, Option, Result, sym, refl, ap, ◌∙◌, subst, arith}
 use lib.ListN.{length-map}
-use Rattle.calls.specs.Answering.{State, after, answer_to, answers_to, at_rest, in_turn, rest_answer, rest_next, said_of, said_of_make, said_of_withdraw, start, turn_answer, turn_at, turn_next}
+use Rattle.calls.specs.Answering.{Answer, State, after, answer_to, answers_to, at_rest, in_turn, rest_answer, rest_next, start, turn_answer, turn_at, turn_next}
 use Rattle.calls.specs.Asking.{Asked, admit, begin, change, make, settle, withdraw}
-use Rattle.calls.specs.declared.exchanges.Answer.{Answer}
-use Rattle.calls.specs.declared.exchanges.Answer.TheVariants.{Opened, OutOfPlace, Refused, Settled}
+use Rattle.calls.specs.declared.exchanges.Denial.TheVariants.{Faulty, OutOfPlace, Refused}
+use Rattle.calls.specs.declared.exchanges.Reply.TheVariants.{Done, Made, Opened, Settled, Withdrawn}
 use Rattle.controller.proofs.Changing.{changed_kept, same_place, there}
 use Rattle.controller.proofs.Settles.{PassedSlot, charge_all, in_room, pass_all, runner}
 use Rattle.controller.specs.Admitting.{accepted, admission_to, is_taken, with_task}
@@ -47,6 +47,7 @@ use Rattle.std.proofs.ByRecursion.{All-from_get_or, All-get_or, All-map, All-set
 use Rattle.std.proofs.lemmas.List.{get_or-map, map-set}
 use Rattle.std.proofs.lemmas.Bool.{cond-false, eqb-false, le-ltb, ltb-false}
 use Rattle.std.specs.List.{AllByRecursion}
+use Rattle.std.specs.Result.{result_map_both}
 
 -- an open turn is the one that the tasks ask for
 abbrev OpenIn : (Entry → Entry → Bool) → ℕ → Tasks → Option Turn → Type 0
@@ -114,7 +115,7 @@ module _ (before : Entry → Entry → Bool) (laws : Lawful before) (T : ℕ) (l
         open' = tt;
       }
 
-  make_step : (sheet : List ℕ) (o : Result Tasks SheetFault) → made sheet ≡ o → Step before at_rest_in (make sheet) (said_of_make (make_answer o)) (at_rest 0 (made_tasks o))
+  make_step : (sheet : List ℕ) (o : Result Tasks SheetFault) → made sheet ≡ o → Step before at_rest_in (make sheet) (result_map_both Made Faulty (make_answer o)) (at_rest 0 (made_tasks o))
   make_step sheet (Ok tasks) is =
       let e = made_enrolled sheet in
       let same : made_tasks (made sheet) ≡ tasks = ap made_tasks is in
@@ -128,8 +129,8 @@ module _ (before : Entry → Entry → Bool) (laws : Lawful before) (T : ℕ) (l
       }
   make_step sheet (Err fault) is = record { turn = tt; paid = tt; goes = refl; good = good_none; even = none_even 0 64; open' = tt }
 
-  admit_step : (asked : Reservation) (o : Result Task Refusal) → admission_to T (seen ledgers) asked ≡ o → Step before at_rest_in (admit asked) (said_of (accepted o)) (at_rest T (with_task o (seen ledgers)))
-  admit_step asked (Err why) is = unmoved (admit asked) (Refused why) tt tt refl
+  admit_step : (asked : Reservation) (o : Result Task Refusal) → admission_to T (seen ledgers) asked ≡ o → Step before at_rest_in (admit asked) (result_map_both (λ done. Done) Refused (accepted o)) (at_rest T (with_task o (seen ledgers)))
+  admit_step asked (Err why) is = unmoved (admit asked) (Err (Refused why)) tt tt refl
   admit_step asked (Ok t) is =
       let u = admitted T asked in
       let i = asked.number - 1 in
@@ -166,8 +167,8 @@ module _ (before : Entry → Entry → Bool) (laws : Lawful before) (T : ℕ) (l
       map-set (in_slot view) ledgers (number - 1) (in_slot f (get_or ledgers (number - 1) None)) ∙ ap (λ x. set (seen ledgers) (number - 1) (in_slot view (in_slot f x))) at.slot
 
   change_step : (number : ℕ) (how : Change) (o : Option Task) → task_at (seen ledgers) number ≡ o → (r : Result Task Refusal) → on_task o (λ t. changed T (rates (seen ledgers)) t how) ≡ r
-      → Step before at_rest_in (change number how) (said_of (accepted r)) (at_rest T (with_task r (seen ledgers)))
-  change_step number how o at (Err why) is = unmoved (change number how) (Refused why) tt tt refl
+      → Step before at_rest_in (change number how) (result_map_both (λ done. Done) Refused (accepted r)) (at_rest T (with_task r (seen ledgers)))
+  change_step number how o at (Err why) is = unmoved (change number how) (Err (Refused why)) tt tt refl
   change_step number how None at (Ok u) is = let z : ◌≡◌ {A = ℕ} 0 1 = cc in absurd (omega arith)
   change_step number how (Some t) at (Ok u) is =
       let ts = seen ledgers in
@@ -189,8 +190,8 @@ module _ (before : Entry → Entry → Bool) (laws : Lawful before) (T : ℕ) (l
       }
 
   withdraw_step : (number : ℕ) (o : Option Task) → task_at (seen ledgers) number ≡ o → (r : Result (Option Task) Refusal) → on_task o (withdrawn T) ≡ r
-      → Step before at_rest_in (withdraw number) (said_of_withdraw (departing r)) (at_rest T (with_slot number r (seen ledgers)))
-  withdraw_step number o at (Err why) is = unmoved (withdraw number) (Refused why) tt tt refl
+      → Step before at_rest_in (withdraw number) (result_map_both Withdrawn Refused (departing r)) (at_rest T (with_slot number r (seen ledgers)))
+  withdraw_step number o at (Err why) is = unmoved (withdraw number) (Err (Refused why)) tt tt refl
   withdraw_step number None at (Ok slot) is = let z : ◌≡◌ {A = ℕ} 0 1 = cc in absurd (omega arith)
   withdraw_step number (Some t) at (Ok None) is =
       record {
@@ -217,8 +218,8 @@ module _ (before : Entry → Entry → Bool) (laws : Lawful before) (T : ℕ) (l
       }
 
   begin_step : (b : Bool) → (b ≡ false → T < 2 ^ 40)
-      → Step before at_rest_in begin (cond b (Refused ClockAtEnd) (Opened (turn_at before T (seen ledgers)))) (cond b (at_rest T (seen ledgers)) (in_turn (turn_at before T (seen ledgers)) (seen ledgers)))
-  begin_step true early = unmoved begin (Refused ClockAtEnd) tt tt refl
+      → Step before at_rest_in begin (cond b (Err (Refused ClockAtEnd)) (Ok (Opened (turn_at before T (seen ledgers))))) (cond b (at_rest T (seen ledgers)) (in_turn (turn_at before T (seen ledgers)) (seen ledgers)))
+  begin_step true early = unmoved begin (Err (Refused ClockAtEnd)) tt tt refl
   begin_step false early =
       record {
         turn = rightly before laws T (seen ledgers) good.tied (early refl);
@@ -235,7 +236,7 @@ module _ (before : Entry → Entry → Bool) (laws : Lawful before) (T : ℕ) (l
   rest_step (change number how) = change_step number how (task_at (seen ledgers) number) refl (change_at T (seen ledgers) number how) refl
   rest_step (withdraw number) = withdraw_step number (task_at (seen ledgers) number) refl (withdrawal_at T (seen ledgers) number) refl
   rest_step begin = begin_step (eqb T (2 ^ 40)) (λ is. let apart = eqb-false T (2 ^ 40) is in omega (arith, good.tied.in_time))
-  rest_step (settle count) = unmoved (settle count) OutOfPlace tt tt refl
+  rest_step (settle count) = unmoved (settle count) (Err OutOfPlace) tt tt refl
 
 -- time passes for all ledgers
 passing_even : (T c : ℕ) (ledgers : Ledgers) → AllByRecursion (EvenSlot T) ledgers → AllByRecursion (PassedSlot (T + c)) (seen ledgers) → AllByRecursion (EvenSlot (T + c)) (map (in_slot (passing c)) ledgers)
@@ -328,7 +329,7 @@ module _ (before : Entry → Entry → Bool) (laws : Lawful before) (turn : Turn
     abbrev Read : ℕ → Ledgers
     Read n = map (in_slot (due T)) (given_in turn.runs n (map (in_slot (passing n)) ledgers))
 
-    settled_step : Step before in_turn_in (settle c) (Settled T) (at_rest T (settled_tasks turn c (seen ledgers)))
+    settled_step : Step before in_turn_in (settle c) (Ok (Settled T)) (at_rest T (settled_tasks turn c (seen ledgers)))
     settled_step =
         record {
           turn = tt;
@@ -343,16 +344,16 @@ module _ (before : Entry → Entry → Bool) (laws : Lawful before) (turn : Turn
         }
 
   settle_step : (c : ℕ) (b : Bool) → (b ≡ false → c ≤ turn.length)
-      → Step before in_turn_in (settle c) (cond b (Refused CountTooHigh) (Settled (turn.start + c))) (cond b (in_turn turn (seen ledgers)) (at_rest (turn.start + c) (settled_tasks turn c (seen ledgers))))
-  settle_step c true few = waits (settle c) (Refused CountTooHigh) tt tt refl
+      → Step before in_turn_in (settle c) (cond b (Err (Refused CountTooHigh)) (Ok (Settled (turn.start + c)))) (cond b (in_turn turn (seen ledgers)) (at_rest (turn.start + c) (settled_tasks turn c (seen ledgers))))
+  settle_step c true few = waits (settle c) (Err (Refused CountTooHigh)) tt tt refl
   settle_step c false few = settled_step c (few refl)
 
   turn_step : (asked : Asked) → Step before in_turn_in asked (turn_answer turn asked) (turn_next turn (seen ledgers) asked)
-  turn_step (make sheet) = waits (make sheet) OutOfPlace tt tt refl
-  turn_step (admit asked) = waits (admit asked) OutOfPlace tt tt refl
-  turn_step (change number how) = waits (change number how) OutOfPlace tt tt refl
-  turn_step (withdraw number) = waits (withdraw number) OutOfPlace tt tt refl
-  turn_step begin = waits begin OutOfPlace tt tt refl
+  turn_step (make sheet) = waits (make sheet) (Err OutOfPlace) tt tt refl
+  turn_step (admit asked) = waits (admit asked) (Err OutOfPlace) tt tt refl
+  turn_step (change number how) = waits (change number how) (Err OutOfPlace) tt tt refl
+  turn_step (withdraw number) = waits (withdraw number) (Err OutOfPlace) tt tt refl
+  turn_step begin = waits begin (Err OutOfPlace) tt tt refl
   turn_step (settle c) = settle_step c (ltb turn.length c) (λ is. ltb-false turn.length c is)
 
 module _ (before : Entry → Entry → Bool) (laws : Lawful before) where
