@@ -379,13 +379,14 @@ module _ (before : Entry → Entry → Bool) (laws : Lawful before) where
   fresh_stands : Standing before fresh
   fresh_stands = record { good = good_none; even = none_even 0 64; open' = tt }
 
-  pub promise_kept : (asked : List Asked) (places : List Answer) → Promise before fresh asked (written_over (answers_to before start asked) places)
-  promise_kept asked places = promised fresh fresh_stands asked places
+  -- answers that were written over any places
+  pub promise_over : (asked : List Asked) (places answers : List Answer) → answers ≡ written_over (answers_to before start asked) places → Promise before fresh asked answers
+  promise_over asked places answers is = subst (Promise before fresh asked) (sym is) (promised fresh fresh_stands asked places)
 
 -- answers that are written over themselves stay
-written_same : (answers : List Answer) → written_over answers answers ≡ answers
+written_same : (answers : List Answer) → answers ≡ written_over answers answers
 written_same [] = refl
 written_same (r ∷ answers) = ap (λ rs. r ∷ rs) (written_same answers)
 
 pub one_by_one : OneByOne
-one_by_one before laws asked = subst (Promise before fresh asked) (written_same (answers_to before start asked)) (promise_kept before laws asked (answers_to before start asked))
+one_by_one before laws asked = promise_over before laws asked (answers_to before start asked) (answers_to before start asked) (written_same (answers_to before start asked))

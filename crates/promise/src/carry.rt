@@ -27,10 +27,10 @@ pub fn carry_out<L: ReadyList>(
     ensures promise { Promise L.Order.TieOrder.before fresh (map asked_by calls.now) answers.new }
 {
     let mut stage = Stage::start(memory, list);
-    for place in 0..calls.len().min(answers.len()) {
-        let (next, answer) = stage.answer(calls[place], memory, list);
-        stage = next;
-        answers[place] = answer;
+    let mut asked = calls.iter();
+    for answer in answers.iter_mut() {
+        let Some(call) = asked.next() else { break };
+        (stage, *answer) = stage.answer(*call, memory, list);
     }
     stage
 }
