@@ -121,11 +121,11 @@ even_changed T rates (Period period) a clear coming e =
 even_changed T rates Wait a clear coming e =
     let ready : is_ready a.terms.phase ≡ true = grind (arith, nat_tests) in
     let waits : stepped a.terms.phase Waits ≡ Waiting = ap (λ p. stepped p Waits) (ready_when a.terms.phase ready) in
-    even_forgone T (becomes T (view a) Wait) a refl refl (omega arith) (λ is. let z : ◌≡◌ {A = ℕ} 0 1 = cc in absurd (omega arith)) e
+    even_forgone T (becomes T (view a) Wait) a refl refl (omega arith) (λ is. absurd cc) e
 even_changed T rates Wake a clear coming e =
     let waiting : is_waiting a.terms.phase ≡ true = grind (arith, nat_tests) in
     let wakes : stepped a.terms.phase Wakes ≡ Ready = ap (λ p. stepped p Wakes) (waiting_when a.terms.phase waiting) in
-    even_forgone T (becomes T (view a) Wake) a refl refl (omega arith) (λ is. let z : ◌≡◌ {A = ℕ} 0 1 = cc in absurd (omega arith)) e
+    even_forgone T (becomes T (view a) Wake) a refl refl (omega arith) (λ is. absurd cc) e
 even_changed T rates Finish a clear coming e = even_forgone T (becomes T (view a) Finish) a refl refl (omega arith) (λ is. refl) e
 
 pub even_leaves : (T : ℕ) (a : Ledger) → Even T a → Even T (leaves a)
@@ -194,9 +194,9 @@ closed_paid T a k =
     record { in_full = omega arith; no_more = omega arith; no_less = omega arith }
 
 never_over : (p : Phase) → stepped p Comes ≡ Finished → ⊥
-never_over Ready is = let z : ◌≡◌ {A = ℕ} 0 1 = cc in omega arith
-never_over Waiting is = let z : ◌≡◌ {A = ℕ} 0 1 = cc in omega arith
-never_over Finished is = let z : ◌≡◌ {A = ℕ} 0 1 = cc in omega arith
+never_over Ready is = cc
+never_over Waiting is = cc
+never_over Finished is = cc
 
 -- the next job starts even
 even_renewed : (T : ℕ) (a : Ledger) → Closed T a → Even T (renewed a)

@@ -130,7 +130,7 @@ changed_feasible T tasks held tied number change feasible t at u is =
 change_feasible : (T : ℕ) (tasks : Tasks) (held : Held) (tied : Tied T tasks held (Unit {0})) (number : ℕ) (change : Change) → Feasible T tasks → (o : Option Task) → task_at tasks number ≡ o
     → (r : Result Task Refusal) → on_task o (λ t. changed T (rates tasks) t change) ≡ r → Feasible T (with_task r tasks)
 change_feasible T tasks held tied number change feasible o at (Err why) is = feasible
-change_feasible T tasks held tied number change feasible None at (Ok u) is = let z : ◌≡◌ {A = ℕ} 0 1 = cc in absurd (omega arith)
+change_feasible T tasks held tied number change feasible None at (Ok u) is = absurd cc
 change_feasible T tasks held tied number change feasible (Some t) at (Ok u) is = changed_feasible T tasks held tied number change feasible t at u is
 
 pub change_keeps : ChangeKeeps

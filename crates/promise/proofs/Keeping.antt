@@ -87,12 +87,12 @@ opened_even T (Some t) f = even_opened T t f
 
 -- the ledger behind a task
 ledger_of : (x : Option Ledger) (t : Task) → in_slot view x ≡ Some t → (l : Ledger) × (x ≡ Some l) × (view l ≡ t)
-ledger_of None t is = let z : ◌≡◌ {A = ℕ} 0 1 = cc in absurd (omega arith)
+ledger_of None t is = absurd cc
 ledger_of (Some l) t is = (l, refl, cc)
 
 -- a slot that is marked
 slot_marked : (T : ℕ) (t u : Task) (b : Bool) → cond b None (Some (marked t)) ≡ Some u → marked t ≡ u
-slot_marked T t u true is = let z : ◌≡◌ {A = ℕ} 0 1 = cc in absurd (omega arith)
+slot_marked T t u true is = absurd cc
 slot_marked T t u false is = cc
 
 abbrev seen : Ledgers → Tasks
@@ -169,7 +169,7 @@ module _ (before : Entry → Entry → Bool) (laws : Lawful before) (T : ℕ) (l
   change_step : (number : ℕ) (how : Change) (o : Option Task) → task_at (seen ledgers) number ≡ o → (r : Result Task Refusal) → on_task o (λ t. changed T (rates (seen ledgers)) t how) ≡ r
       → Step before at_rest_in (change number how) (result_map_both (λ done. Done) Refused (accepted r)) (at_rest T (with_task r (seen ledgers)))
   change_step number how o at (Err why) is = unmoved (change number how) (Err (Refused why)) tt tt refl
-  change_step number how None at (Ok u) is = let z : ◌≡◌ {A = ℕ} 0 1 = cc in absurd (omega arith)
+  change_step number how None at (Ok u) is = absurd cc
   change_step number how (Some t) at (Ok u) is =
       let ts = seen ledgers in
       let f = found number t at in
@@ -192,7 +192,7 @@ module _ (before : Entry → Entry → Bool) (laws : Lawful before) (T : ℕ) (l
   withdraw_step : (number : ℕ) (o : Option Task) → task_at (seen ledgers) number ≡ o → (r : Result (Option Task) Refusal) → on_task o (withdrawn T) ≡ r
       → Step before at_rest_in (withdraw number) (result_map_both Withdrawn Refused (departing r)) (at_rest T (with_slot number r (seen ledgers)))
   withdraw_step number o at (Err why) is = unmoved (withdraw number) (Err (Refused why)) tt tt refl
-  withdraw_step number None at (Ok slot) is = let z : ◌≡◌ {A = ℕ} 0 1 = cc in absurd (omega arith)
+  withdraw_step number None at (Ok slot) is = absurd cc
   withdraw_step number (Some t) at (Ok None) is =
       record {
         turn = tt;

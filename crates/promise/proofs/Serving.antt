@@ -45,7 +45,7 @@ nearest_some bound (Some t ∷ tasks) =
 
 nearest_under : (bound : ℕ) (tasks : Tasks) (i : ℕ) (t : Task) → i < length tasks → get_or tasks i None ≡ Some t → fold sooner bound tasks ≤ t.deadline
 nearest_under bound [] i t lt is = absurd (omega arith)
-nearest_under bound (None ∷ tasks) zero t lt is = let z : ◌≡◌ {A = ℕ} 0 1 = cc in absurd (omega arith)
+nearest_under bound (None ∷ tasks) zero t lt is = absurd cc
 nearest_under bound (None ∷ tasks) (suc i) t lt is = nearest_under bound tasks i t (omega arith) is
 nearest_under bound (Some u ∷ tasks) zero t lt is =
     let same : u ≡ t = cc in

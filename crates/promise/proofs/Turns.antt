@@ -100,7 +100,7 @@ module _ (before : Entry → Entry → Bool) (laws : Lawful before) (tasks : Tas
       (l.0, l.1, l.2, l.3, lt)
     where
       task_of : (x : Option Task) (o : Entry) → entry_of x ≡ Some o → (t : Task) × (x ≡ Some t) × (wants_to_run t ≡ true) × (entry_for t ≡ o)
-      task_of None o got = let z : ◌≡◌ {A = ℕ} 0 1 = cc in absurd (omega arith)
+      task_of None o got = absurd cc
       task_of (Some t) o got =
           ⊎_elim
           (λ (want : wants_to_run t ≡ true).
@@ -108,7 +108,7 @@ module _ (before : Entry → Entry → Bool) (laws : Lawful before) (tasks : Tas
           (t, refl, want, cc))
           (λ (want : wants_to_run t ≡ false).
           let nothing : entry_of (Some t) ≡ None = cond-false (wants_to_run t) (Some (entry_for t)) None want in
-          let z : ◌≡◌ {A = ℕ} 0 1 = cc in absurd (omega arith))
+          absurd cc)
           (cases_Bool (wants_to_run t))
 
   quiet_charged : (u c : ℕ) (t : Task) → u < t.deadline → Quiet u (charged c (Some t))
