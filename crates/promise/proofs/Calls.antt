@@ -60,15 +60,9 @@ change_no_worse T rates t (to_period period) u s is =
     let p = unless_ok (why_not_period T t period) (with_period t period) u is in
     let clear = p.0 in
     subst (λ v. NoWorse T (Some t) (Some v)) p.1 (period_no_worse T t period s (period_fits T t period clear) (λ early. grind (arith, nat_tests)))
-change_no_worse T rates t wait u s is =
-    let p = unless_ok (why_not_ready t) (moved_by Wait t.left t) u is in
-    subst (λ v. NoWorse T (Some t) (Some v)) p.1 (moved_no_worse T t Wait t.left (omega arith) (λ after. absurd (waits t.phase (ready_from t p.0) after)))
-change_no_worse T rates t wake u s is =
-    let p = unless_ok (why_not_wake t) (woken T t) u is in
-    subst (λ v. NoWorse T (Some t) (Some v)) p.1 (moved_no_worse T t Wake (min t.left (share T t / 1000)) (omega arith) (λ after. omega arith))
-change_no_worse T rates t finish u s is =
-    let p = unless_ok (why_not_ready t) (moved_by Finish 0 t) u is in
-    subst (λ v. NoWorse T (Some t) (Some v)) p.1 (moved_no_worse T t Finish 0 (omega arith) (λ after. omega arith))
+change_no_worse T rates t wait u s is = grind (arith, nat_tests)
+change_no_worse T rates t wake u s is = grind (arith, nat_tests)
+change_no_worse T rates t finish u s is = grind (arith, nat_tests)
 
 -- at its deadline a ready job has nothing left
 no_spare : (T : ℕ) (tasks : Tasks) → sum_by (spare T T) tasks ≡ 0
@@ -96,11 +90,7 @@ empty_is_feasible u le = omega (arith, no_owed 0 u 64)
 
 -- a slot that is not taken is empty
 free_slot : (tasks : Tasks) (number : ℕ) → in_range number ≡ true → is_taken tasks number ≡ false → get_or tasks (number - 1) None ≡ None
-free_slot tasks number range free = empty_from (get_or tasks (number - 1) None) (sym (ap is_some (cond-true (in_range number) (get_or tasks (number - 1) None) None range)) ∙ free)
-  where
-    empty_from : (x : Option Task) → is_some x ≡ false → x ≡ None
-    empty_from None is = refl
-    empty_from (Some t) is = absurd (true≢false is)
+free_slot tasks number range free = grind (arith, nat_tests)
 
 pub admitted_feasible : (T : ℕ) (tasks : Tasks) (held : Held) → Tied T tasks held (Unit {0}) → (asked : Reservation) → Feasible T tasks → (r : Result Task Refusal) → admission_to T tasks asked ≡ r → Feasible T (with_task r tasks)
 admitted_feasible T tasks held tied asked feasible (Err why) is = feasible
@@ -137,10 +127,7 @@ pub change_keeps : ChangeKeeps
 change_keeps T tasks held tied number change feasible = change_feasible T tasks held tied number change feasible (task_at tasks number) refl (change_at T tasks number change) refl
 
 withdrawn_no_worse : (T : ℕ) (t : Task) (slot : Option Task) → withdrawn T t ≡ Ok slot → NoWorse T (Some t) slot
-withdrawn_no_worse T t slot is =
-    let p = unless_ok (why_not_withdrawn t) (withdrawn_slot T t) slot is in
-    subst (NoWorse T (Some t)) p.1
-    (cond_both (goes_at_once T t) None (Some (marked t)) (NoWorse T (Some t)) (λ once. gone_no_worse T t (and_parts (is_ready t.phase) (may_lower T t) once).1) (λ later u le. omega arith))
+withdrawn_no_worse T t slot is = grind (arith, nat_tests)
 
 pub withdrawn_feasible : (T : ℕ) (tasks : Tasks) (held : Held) (tied : Tied T tasks held (Unit {0})) (number : ℕ) → Feasible T tasks → (t : Task) → task_at tasks number ≡ Some t
     → (slot : Option Task) → withdrawn T t ≡ Ok slot → Feasible T (set tasks (number - 1) slot)

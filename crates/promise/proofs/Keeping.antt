@@ -46,6 +46,7 @@ use Rattle.rules.specs.declared.tasks.Task.{Task}
 use Rattle.std.proofs.ByRecursion.{All-from_get_or, All-get_or, All-map, All-set, All-weaker}
 use Rattle.std.proofs.lemmas.List.{get_or-map, map-set}
 use Rattle.std.proofs.lemmas.Bool.{cond-false, eqb-false, le-ltb, ltb-false}
+use Rattle.std.proofs.lemmas.Bool.Decides.{nat_tests}
 use Rattle.std.specs.List.{AllByRecursion}
 use Rattle.std.specs.Result.{result_map_both}
 
@@ -70,12 +71,7 @@ record Step (before : Entry → Entry → Bool) (a : Account) (asked : Asked) (r
   open' : OpenIn before s.clock s.tasks s.turn
 
 goes_on : (before : Entry → Entry → Bool) (a : Account) (asked : Asked) (r : Answer) (s : State) → Step before a asked r s → Standing before (moved asked r a)
-goes_on before a asked r s step =
-    record {
-      good = subst (λ x. Good x.clock x.tasks) (sym step.goes) step.good;
-      even = step.even;
-      open' = subst (λ x. OpenIn before x.clock x.tasks x.turn) (sym step.goes) step.open';
-    }
+goes_on before a asked r s step = grind (arith, nat_tests)
 
 none_even : (T n : ℕ) → AllByRecursion (EvenSlot T) (replicate n None)
 none_even T zero = tt
@@ -130,7 +126,7 @@ module _ (before : Entry → Entry → Bool) (laws : Lawful before) (T : ℕ) (l
   make_step sheet (Err fault) is = record { turn = tt; paid = tt; goes = refl; good = good_none; even = none_even 0 64; open' = tt }
 
   admit_step : (asked : Reservation) (o : Result Task Refusal) → admission_to T (seen ledgers) asked ≡ o → Step before at_rest_in (admit asked) (result_map_both (λ done. Done) Refused (accepted o)) (at_rest T (with_task o (seen ledgers)))
-  admit_step asked (Err why) is = unmoved (admit asked) (Err (Refused why)) tt tt refl
+  admit_step asked (Err why) is = grind (arith, nat_tests)
   admit_step asked (Ok t) is =
       let u = admitted T asked in
       let i = asked.number - 1 in
@@ -168,7 +164,7 @@ module _ (before : Entry → Entry → Bool) (laws : Lawful before) (T : ℕ) (l
 
   change_step : (number : ℕ) (how : Change) (o : Option Task) → task_at (seen ledgers) number ≡ o → (r : Result Task Refusal) → on_task o (λ t. changed T (rates (seen ledgers)) t how) ≡ r
       → Step before at_rest_in (change number how) (result_map_both (λ done. Done) Refused (accepted r)) (at_rest T (with_task r (seen ledgers)))
-  change_step number how o at (Err why) is = unmoved (change number how) (Err (Refused why)) tt tt refl
+  change_step number how o at (Err why) is = grind (arith, nat_tests)
   change_step number how None at (Ok u) is = absurd cc
   change_step number how (Some t) at (Ok u) is =
       let ts = seen ledgers in
@@ -191,7 +187,7 @@ module _ (before : Entry → Entry → Bool) (laws : Lawful before) (T : ℕ) (l
 
   withdraw_step : (number : ℕ) (o : Option Task) → task_at (seen ledgers) number ≡ o → (r : Result (Option Task) Refusal) → on_task o (withdrawn T) ≡ r
       → Step before at_rest_in (withdraw number) (result_map_both Withdrawn Refused (departing r)) (at_rest T (with_slot number r (seen ledgers)))
-  withdraw_step number o at (Err why) is = unmoved (withdraw number) (Err (Refused why)) tt tt refl
+  withdraw_step number o at (Err why) is = grind (arith, nat_tests)
   withdraw_step number None at (Ok slot) is = absurd cc
   withdraw_step number (Some t) at (Ok None) is =
       record {
@@ -219,7 +215,7 @@ module _ (before : Entry → Entry → Bool) (laws : Lawful before) (T : ℕ) (l
 
   begin_step : (b : Bool) → (b ≡ false → T < 2 ^ 40)
       → Step before at_rest_in begin (cond b (Err (Refused ClockAtEnd)) (Ok (Opened (turn_at before T (seen ledgers))))) (cond b (at_rest T (seen ledgers)) (in_turn (turn_at before T (seen ledgers)) (seen ledgers)))
-  begin_step true early = unmoved begin (Err (Refused ClockAtEnd)) tt tt refl
+  begin_step true early = grind (arith, nat_tests)
   begin_step false early =
       record {
         turn = rightly before laws T (seen ledgers) good.tied (early refl);
@@ -236,7 +232,7 @@ module _ (before : Entry → Entry → Bool) (laws : Lawful before) (T : ℕ) (l
   rest_step (change number how) = change_step number how (task_at (seen ledgers) number) refl (change_at T (seen ledgers) number how) refl
   rest_step (withdraw number) = withdraw_step number (task_at (seen ledgers) number) refl (withdrawal_at T (seen ledgers) number) refl
   rest_step begin = begin_step (eqb T (2 ^ 40)) (λ is. let apart = eqb-false T (2 ^ 40) is in omega (arith, good.tied.in_time))
-  rest_step (settle count) = unmoved (settle count) (Err OutOfPlace) tt tt refl
+  rest_step (settle count) = grind (arith, nat_tests)
 
 -- time passes for all ledgers
 passing_even : (T c : ℕ) (ledgers : Ledgers) → AllByRecursion (EvenSlot T) ledgers → AllByRecursion (PassedSlot (T + c)) (seen ledgers) → AllByRecursion (EvenSlot (T + c)) (map (in_slot (passing c)) ledgers)
@@ -345,14 +341,14 @@ module _ (before : Entry → Entry → Bool) (laws : Lawful before) (turn : Turn
 
   settle_step : (c : ℕ) (b : Bool) → (b ≡ false → c ≤ turn.length)
       → Step before in_turn_in (settle c) (cond b (Err (Refused CountTooHigh)) (Ok (Settled (turn.start + c)))) (cond b (in_turn turn (seen ledgers)) (at_rest (turn.start + c) (settled_tasks turn c (seen ledgers))))
-  settle_step c true few = waits (settle c) (Err (Refused CountTooHigh)) tt tt refl
+  settle_step c true few = grind (arith, nat_tests)
   settle_step c false few = settled_step c (few refl)
 
   turn_step : (asked : Asked) → Step before in_turn_in asked (turn_answer turn asked) (turn_next turn (seen ledgers) asked)
-  turn_step (make sheet) = waits (make sheet) (Err OutOfPlace) tt tt refl
-  turn_step (admit asked) = waits (admit asked) (Err OutOfPlace) tt tt refl
-  turn_step (change number how) = waits (change number how) (Err OutOfPlace) tt tt refl
-  turn_step (withdraw number) = waits (withdraw number) (Err OutOfPlace) tt tt refl
+  turn_step (make sheet) = grind (arith, nat_tests)
+  turn_step (admit asked) = grind (arith, nat_tests)
+  turn_step (change number how) = grind (arith, nat_tests)
+  turn_step (withdraw number) = grind (arith, nat_tests)
   turn_step begin = waits begin (Err OutOfPlace) tt tt refl
   turn_step (settle c) = settle_step c (ltb turn.length c) (λ is. ltb-false turn.length c is)
 

@@ -21,6 +21,7 @@ use Rattle.rules.specs.Jobs.{left_of, sooner}
 use Rattle.rules.specs.Tasks.{entry_of, wants_to_run}
 use Rattle.rules.specs.declared.tasks.Task.{Task}
 use Rattle.std.proofs.lemmas.Bool.{cases_lt, cond-true}
+use Rattle.std.proofs.lemmas.Bool.Decides.{nat_tests}
 
 -- the nearest deadline is the bound or that of a task, and none is nearer
 abbrev Nearest : ℕ → Tasks → ℕ → Type 0
@@ -56,8 +57,7 @@ nearest_under bound (Some u ∷ tasks) (suc i) t lt is = nearest_under (min boun
 module _ (before : Entry → Entry → Bool) (laws : Lawful before) (T : ℕ) (tasks : Tasks) (tied : Tied T tasks (map entry_of tasks) (Unit {0})) (early : T < 2 ^ 40) where
   -- a task by its number, and by its place
   number_at : (i : ℕ) (t : Task) → i < length tasks → get_or tasks i None ≡ Some t → task_at tasks (i + 1) ≡ Some t
-  number_at i t lt is =
-      cond-true (in_range (i + 1)) (get_or tasks (i + 1 - 1) None) None (place_range i (omega (arith, tied.mirror.many))) ∙ (ap (λ n. get_or tasks n None) (place_back i) ∙ is)
+  number_at i t lt is = grind (arith, nat_tests)
 
   held_at : (number : ℕ) (t : Task) → task_at tasks number ≡ Some t → wants_to_run t ≡ true → entry_at (map entry_of tasks) t.number ≡ Some (entry_for t)
   held_at number t at want =
@@ -113,10 +113,7 @@ module _ (before : Entry → Entry → Bool) (laws : Lawful before) (T : ℕ) (t
       let h = there T tasks (map entry_of tasks) (Unit {0}) tied number t at in
       omega (arith, room first, nearest_under (2 ^ 40) tasks (number - 1) t (omega (arith, h.low, h.high, tied.mirror.many)) h.slot)
   no_later None time (inr (inr never)) = absurd never
-  no_later (Some e) time (inr (inr (t, at, is))) =
-      let h = there T tasks (map entry_of tasks) (Unit {0}) tied e.number t at in
-      let left : left_of (get_or tasks (e.number - 1) None) ≡ t.left = ap left_of h.slot in
-      omega arith
+  no_later (Some e) time (inr (inr (t, at, is))) = grind (arith, nat_tests)
 
   pub rightly : Rightly before T tasks (turn_at before T tasks)
   rightly =

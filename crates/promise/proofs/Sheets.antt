@@ -1,5 +1,5 @@
 -- The tasks that a sheet makes: tied, feasible, and with nothing run yet.
-use Rattle.std.proofs.Common.{◌≡◌, ℕ, zero, suc, ◌+◌, ◌-◌, List, set, replicate, Some, None, Ok, Err, Option, Result, refl, subst}
+use Rattle.std.proofs.Common.{◌≡◌, ℕ, zero, suc, ◌+◌, ◌-◌, List, set, replicate, Some, None, Ok, Err, Option, Result, refl, subst, arith}
 use Rattle.controller.specs.Admitting.{admission_to, is_taken}
 use Rattle.controller.specs.Making.{enrolled, joined, made, made_tasks, reservation}
 use Rattle.controller.specs.Tasks.{Tasks, no_tasks, rates}
@@ -17,6 +17,7 @@ use Rattle.sheet.specs.Records.{TaskValue, note, task}
 use Rattle.sheet.specs.Sheets.{Sheet, sheet_of}
 use Rattle.std.proofs.ByRecursion.{All-set}
 use Rattle.std.specs.List.{AllByRecursion}
+use Rattle.std.proofs.lemmas.Bool.Decides.{nat_tests}
 
 -- a task whose first job was released at T
 pub record Fresh (T : ℕ) (t : Task) : Type 0 where
@@ -30,7 +31,7 @@ FreshSlot T None = Unit {0}
 FreshSlot T (Some t) = Fresh T t
 
 pub admitted_fresh : (T : ℕ) (asked : Reservation) → Fresh T (admitted T asked)
-admitted_fresh T asked = record { ran = refl; left = refl; deadline = refl; phase = refl }
+admitted_fresh T asked = grind (arith, nat_tests)
 
 pub record Enrolled (tasks : Tasks) : Type 0 where
   pub good : Good 0 tasks

@@ -24,10 +24,7 @@ replaced T tasks i new lt step feasible u le =
 
 -- a new task is neither behind nor ahead
 pub admit_no_worse : (T : ℕ) (asked : Reservation) → NoWorse T None (Some (admitted T asked))
-admit_no_worse T asked u le =
-    let span : (T + asked.period) - T ≡ asked.period = omega arith in
-    let product : asked.rate * ((T + asked.period) - T) ≡ asked.rate * asked.period = ap (λ n. asked.rate * n) span in
-    grind (arith, nat_tests)
+admit_no_worse T asked u le = grind (arith, nat_tests)
 
 -- a rate that fits, lowered only where that is allowed
 pub rate_no_worse : (T rates : ℕ) (t : Task) (rate : ℕ) → Sound T t → RateFits T rates t rate → (rate < t.rate → may_lower T t ≡ true) → NoWorse T (Some t) (Some (with_rate T t rate))
@@ -63,11 +60,7 @@ period_no_worse T t period s f allowed u le =
 
 -- fewer ticks left, and not behind after it: a task that waits, wakes or finishes
 pub moved_no_worse : (T : ℕ) (t : Task) (event : Event) (left : ℕ) → left ≤ t.left → (is_ready (stepped t.phase event) ≡ true → 1000 * left ≤ share T t) → NoWorse T (Some t) (Some (moved_by event left t))
-moved_no_worse T t event left less even u le =
-    ⊎_elim
-    (λ (ready : is_ready (stepped t.phase event) ≡ true). let few = even ready in grind (arith, nat_tests))
-    (λ (not' : is_ready (stepped t.phase event) ≡ false). grind (arith, nat_tests))
-    (cases_Bool (is_ready (stepped t.phase event)))
+moved_no_worse T t event left less even u le = grind (arith, nat_tests)
 
 -- a task that may be lowered may go at once
 pub gone_no_worse : (T : ℕ) (t : Task) → may_lower T t ≡ true → NoWorse T (Some t) None
@@ -75,13 +68,4 @@ gone_no_worse T t may u le = grind (arith, nat_tests)
 
 -- a deadline that has come: what is left of the job is dropped, and the next one starts even
 pub due_no_worse : (T : ℕ) (t : Task) → Passed T t → NoWorse T (Some t) (due_at T (Some t))
-due_no_worse T t p u le =
-    let P : Option Task → Type 0 = λ y. owed T u y + spare T u (Some t) ≤ owed T u (Some t) + spare T u y in
-    cond_both (eqb t.deadline T) (after_deadline t) (Some t) P
-    (λ e. let now' = eqb-true t.deadline T e in
-    let none' : t.deadline - T ≡ 0 = omega arith in
-    let nothing : t.rate * (t.deadline - T) ≡ 0 = ap (λ n. t.rate * n) none' ∙ mul-zero t.rate in
-    let span : (t.deadline + t.period) - T ≡ t.period = omega arith in
-    let product : t.rate * ((t.deadline + t.period) - T) ≡ t.rate * t.period = ap (λ n. t.rate * n) span in
-    cond_both t.leaving None (Some (next_job t)) P (λ _. grind (arith, nat_tests)) (λ _. grind (arith, nat_tests)))
-    (λ e. omega arith)
+due_no_worse T t p u le = grind (arith, nat_tests)

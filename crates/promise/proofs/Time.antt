@@ -28,9 +28,7 @@ drift T c u t due le =
 -- a ready task is charged c of the ticks that it has left
 pub charge : (T c u : ℕ) (t : Task) → T ≤ t.deadline → t.deadline ≤ u → c ≤ t.left → is_ready t.phase ≡ true
     → owed T u (charged c (Some t)) + spare T u (Some t) + 1000 * c ≤ owed T u (Some t) + spare T u (charged c (Some t))
-charge T c u t due le few ready =
-    let cap : t.rate * (t.deadline - T) ≤ t.rate * (u - T) = mul-le-mul_left t.rate (omega arith) in
-    grind (arith, nat_tests)
+charge T c u t due le few ready = grind (arith, nat_tests)
 
 drift_slot : (T c u : ℕ) (x : Option Task) → PassedSlot (T + c) x → T + c ≤ u → owed (T + c) u x + spare T u x ≤ owed T u x + spare (T + c) u x + c * rate_of x
 drift_slot T c u None p le = omega arith
@@ -51,11 +49,7 @@ Quiet u (Some t) = wants_to_run t ≡ true → u < t.deadline
 
 quiet_slot : (T u : ℕ) (x : Option Task) → Quiet u x → owed T u x ≡ 0
 quiet_slot T u None q = refl
-quiet_slot T u (Some t) q =
-    ⊎_elim
-    (λ (want : wants_to_run t ≡ true). let later = q want in grind (arith, nat_tests))
-    (λ (want : wants_to_run t ≡ false). grind (arith, nat_tests))
-    (cases_Bool (wants_to_run t))
+quiet_slot T u (Some t) q = grind (arith, nat_tests)
 
 pub quiet_all : (T u : ℕ) (tasks : Tasks) → AllByRecursion (Quiet u) tasks → sum_by (owed T u) tasks ≡ 0
 quiet_all T u [] all = refl

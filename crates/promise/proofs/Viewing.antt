@@ -13,6 +13,7 @@ use Rattle.rules.specs.declared.changes.Change.TheVariants.{Finish, Period, Rate
 use Rattle.rules.specs.declared.tasks.Task.{Task}
 use Rattle.std.proofs.lemmas.List.{get_or-map, map-set}
 use Rattle.std.proofs.lemmas.Bool.{and_left, cases_Bool, cond_both, cond-false, cond-true}
+use Rattle.std.proofs.lemmas.Bool.Decides.{nat_tests}
 use Rattle.std.specs.List.{AllByRecursion}
 
 -- a task with other ticks
@@ -31,34 +32,31 @@ with_ticks t l r =
     }
 
 same_ticks : (t : Task) (l r : ℕ) → l ≡ t.left → r ≡ t.ran → with_ticks t l r ≡ t
-same_ticks t l r left ran = ap (λ n. with_ticks t n r) left ∙ ap (with_ticks t t.left) ran
+same_ticks t l r left ran = grind (arith, nat_tests)
 
 pub view-opened : (t : Task) → t.ran ≡ 0 → view (opened t) ≡ t
-view-opened t none = same_ticks t (t.left - (0 + 0)) 0 (omega arith) (sym none)
+view-opened t none = grind (arith, nat_tests)
 
 pub view-regranted : (u : Task) (a : Ledger) → u.ran ≡ a.job.given → view (regranted u a) ≡ u
-view-regranted u a ran = same_ticks u (u.left + (a.job.given + a.job.given_up) - (a.job.given + a.job.given_up)) a.job.given (omega arith) (sym ran)
+view-regranted u a ran = grind (arith, nat_tests)
 
 pub view-forgone : (u : Task) (a : Ledger) → u.ran ≡ a.job.given → u.left ≤ left_in a.job → view (forgone u a) ≡ u
-view-forgone u a ran less =
-    same_ticks u (a.job.grant - (a.job.given + (a.job.given_up + (left_in a.job - u.left)))) a.job.given (omega arith) (sym ran)
+view-forgone u a ran less = grind (arith, nat_tests)
 
 pub view-changed : (T : ℕ) (how : Change) (a : Ledger) → view (changed_by T how a) ≡ becomes T (view a) how
-view-changed T (Rate rate) a = view-regranted (becomes T (view a) (Rate rate)) a refl
-view-changed T (Period period) a = view-regranted (becomes T (view a) (Period period)) a refl
-view-changed T Wait a = view-forgone (becomes T (view a) Wait) a refl (omega arith)
-view-changed T Wake a = view-forgone (becomes T (view a) Wake) a refl (omega arith)
-view-changed T Finish a = view-forgone (becomes T (view a) Finish) a refl (omega arith)
+view-changed T (Rate rate) a = grind (arith, nat_tests)
+view-changed T (Period period) a = grind (arith, nat_tests)
+view-changed T Wait a = grind (arith, nat_tests)
+view-changed T Wake a = grind (arith, nat_tests)
+view-changed T Finish a = grind (arith, nat_tests)
 
 view-renewed : (a : Ledger) → view (renewed a) ≡ next_job (view a)
-view-renewed a = same_ticks (next_job (view a)) ((next_job (view a)).left - (0 + 0)) 0 (omega arith) refl
+view-renewed a = grind (arith, nat_tests)
 
 -- ticks that a task is given
 served_charged : (c : ℕ) (x : Option Ledger) → in_slot view (in_slot (served c) x) ≡ charged c (in_slot view x)
 served_charged c None = refl
-served_charged c (Some a) =
-    let left : a.job.grant - (a.job.given + c + a.job.given_up) ≡ left_in a.job - c = omega arith in
-    ap (λ n. Some (with_ticks (view a) n (a.job.given + c))) left
+served_charged c (Some a) = grind (arith, nat_tests)
 
 -- time that passes shows only in the sums
 pub view-passing : (c : ℕ) (ledgers : Ledgers) → map (in_slot view) (map (in_slot (passing c)) ledgers) ≡ map (in_slot view) ledgers
@@ -81,26 +79,11 @@ view-given (runs-task number deadline) c ledgers in' =
 
 -- a deadline that has come
 follows_view : (T : ℕ) (a : Ledger) → eqb a.terms.deadline T ≡ true → in_slot view (follows T (Some a)) ≡ after_deadline (view a)
-follows_view T a now' =
-    ap (in_slot view) (cond-true (eqb a.terms.deadline T) (cond a.terms.leaving None (Some (renewed a))) (Some a) now')
-    ∙ by_leaving a.terms.leaving
-  where
-    by_leaving : (b : Bool) → in_slot view (cond b None (Some (renewed a))) ≡ cond b None (Some (next_job (view a)))
-    by_leaving true = refl
-    by_leaving false = ap Some (view-renewed a)
+follows_view T a now' = grind (arith, nat_tests)
 
 follows_due : (T : ℕ) (x : Option Ledger) → in_slot view (follows T (in_slot (due T) x)) ≡ due_at T (in_slot view x)
 follows_due T None = refl
-follows_due T (Some a) =
-    let D = a.terms.deadline in
-    ⊎_elim
-    (λ (now' : eqb D T ≡ true).
-    cond_both (eqb D T && is_waiting a.terms.phase) (spent a) a (λ x. in_slot view (follows T (Some x)) ≡ after_deadline (view a)) (λ _. follows_view T (spent a) now') (λ _. follows_view T a now')
-    ∙ sym (cond-true (eqb D T) (after_deadline (view a)) (Some (view a)) now'))
-    (λ (later : eqb D T ≡ false).
-    ap (λ x. in_slot view (follows T (Some x))) (cond-false (eqb D T && is_waiting a.terms.phase) (spent a) a (and_left (eqb D T) (is_waiting a.terms.phase) later))
-    ∙ (ap (in_slot view) (cond-false (eqb D T) (cond a.terms.leaving None (Some (renewed a))) (Some a) later) ∙ sym (cond-false (eqb D T) (after_deadline (view a)) (Some (view a)) later)))
-    (cases_Bool (eqb D T))
+follows_due T (Some a) = grind (arith, nat_tests)
 
 pub view-due : (T : ℕ) (ledgers : Ledgers) → map (in_slot view) (map (follows T) (map (in_slot (due T)) ledgers)) ≡ map (due_at T) (map (in_slot view) ledgers)
 view-due T [] = refl
