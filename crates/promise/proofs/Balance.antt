@@ -1,19 +1,17 @@
 -- One task's balance: what it was given, gave up and has left is what its rates have given, less the rounding.
-use Rattle.std.proofs.Common.{◌≡◌, ℕ, ◌+◌, ◌-◌, ◌*◌, ◌<◌, ◌≤◌, true, false, cond, ◌&&◌, eqb, Some, None, Option, sym, refl, ap, ◌∙◌, subst, ⊎_elim, mul_comm, add-mul, mul-zero, zero-mul, mul-add, arith}
+use Rattle.std.proofs.Common.{◌≡◌, ℕ, ◌+◌, ◌-◌, ◌*◌, ◌<◌, ◌≤◌, true, Some, None, Option, sym, ap, ◌∙◌, ⊎_elim, add-mul, mul-zero, zero-mul, mul-add, arith}
 use Rattle.promise.proofs.Sheets.{Fresh}
-use Rattle.promise.specs.Account.{Ledger, changed_by, due, follows, forgone, in_slot, leaves, left_in, opened, passing, regranted, renewed, served, spent, view}
-use Rattle.promise.specs.Promised.{Paid, PaidAt}
+use Rattle.promise.specs.Account.{Ledger, changed_by, due, follows, in_slot, leaves, left_in, opened, passing, regranted, served, view}
+use Rattle.promise.specs.Promised.{PaidAt}
 use Rattle.rules.proofs.Changing.{PeriodFits, RateFits, period_fits, rate_fits}
-use Rattle.rules.specs.Changes.{becomes, deadline_at, is_waiting, why_not_changed, with_period, with_rate}
-use Rattle.rules.specs.Phases.{stepped}
+use Rattle.rules.specs.Changes.{deadline_at, why_not_changed, with_period, with_rate}
 use Rattle.rules.specs.Tasks.{is_ready}
 use Rattle.rules.specs.declared.changes.Change.{Change}
 use Rattle.rules.specs.declared.changes.Change.TheVariants.{Finish, Period, Rate, Wait, Wake}
-use Rattle.rules.specs.declared.phases.Event.TheVariants.{Deadline as Comes, Wait as Waits, Wake as Wakes}
 use Rattle.rules.specs.declared.phases.Phase.{Phase}
-use Rattle.rules.specs.declared.phases.Phase.TheVariants.{Finished, Ready, Waiting}
+use Rattle.rules.specs.declared.phases.Phase.TheVariants.{Finished}
 use Rattle.rules.specs.declared.tasks.Task.{Task}
-use Rattle.std.proofs.lemmas.Bool.{and_from, and_left, and_right, cases_Bool, cases_eq, cases_lt, cond_both, cond-false, cond-true, eq-eqb, ne_eqb, true≢false}
+use Rattle.std.proofs.lemmas.Bool.{cases_lt, true≢false}
 use Rattle.std.proofs.lemmas.Bool.Decides.{nat_tests}
 
 -- ticks given, given up and left over all jobs; and what was reckoned with: a release or a change costs less than a tick
@@ -87,20 +85,6 @@ even_period T a period ready coming f e =
     record { within = omega arith; most = omega arith; least = omega arith; over = over })
     (cases_lt E D)
 
--- ticks that are given up
-even_forgone : (T : ℕ) (u : Task) (a : Ledger) → u.rate ≡ a.terms.rate → u.deadline ≡ a.terms.deadline → u.left ≤ left_in a.job → (u.phase ≡ Finished → u.left ≡ 0) → Even T a → Even T (forgone u a)
-even_forgone T u a rate deadline less over e = grind (arith, nat_tests)
-
-ready_when : (p : Phase) → is_ready p ≡ true → p ≡ Ready
-ready_when Ready is = refl
-ready_when Waiting is = absurd (true≢false (sym is))
-ready_when Finished is = absurd (true≢false (sym is))
-
-waiting_when : (p : Phase) → is_waiting p ≡ true → p ≡ Waiting
-waiting_when Ready is = absurd (true≢false (sym is))
-waiting_when Waiting is = refl
-waiting_when Finished is = absurd (true≢false (sym is))
-
 -- every accepted change keeps the balance
 pub even_changed : (T rates : ℕ) (how : Change) (a : Ledger) → why_not_changed T rates (view a) how ≡ None → T ≤ a.terms.deadline → Even T a → Even T (changed_by T how a)
 even_changed T rates (Rate rate) a clear coming e =
@@ -124,40 +108,6 @@ even_passing T c a coming e = grind (arith, nat_tests)
 pub even_served : (T c : ℕ) (a : Ledger) → c ≤ left_in a.job → Even T a → Even T (served c a)
 even_served T c a few e = grind (arith, nat_tests)
 
--- a ledger at its deadline, with nothing left of the job
-pub record Closed (T : ℕ) (a : Ledger) : Type 0 where
-  pub even : Even T a
-  pub came : a.terms.deadline ≡ T
-  pub none : left_in a.job ≡ 0
-
-closed_spent : (T : ℕ) (a : Ledger) → Even T a → a.terms.deadline ≡ T → Closed T (spent a)
-closed_spent T a e came = grind (arith, nat_tests)
-
--- a job that is not waiting is ready or finished
-settled_left : (p : Phase) (n : ℕ) → is_waiting p ≡ false → (is_ready p ≡ true → n ≡ 0) → (p ≡ Finished → n ≡ 0) → n ≡ 0
-settled_left Ready n idle ready over = ready refl
-settled_left Waiting n idle ready over = absurd (true≢false idle)
-settled_left Finished n idle ready over = over refl
-
-closed_due : (T : ℕ) (a : Ledger) → Even T a → a.terms.deadline ≡ T → (is_ready a.terms.phase ≡ true → left_in a.job ≡ 0) → Closed T (due T a)
-closed_due T a e came ready = grind (arith, nat_tests)
-
--- both promises are read off the balance
-closed_paid : (T : ℕ) (a : Ledger) → Closed T a → Paid a
-closed_paid T a k = grind (arith, nat_tests)
-
-never_over : (p : Phase) → stepped p Comes ≡ Finished → ⊥
-never_over Ready is = cc
-never_over Waiting is = cc
-never_over Finished is = cc
-
--- the next job starts even
-even_renewed : (T : ℕ) (a : Ledger) → Closed T a → Even T (renewed a)
-even_renewed T a k = grind (arith, nat_tests)
-
-even_follows : (T : ℕ) (a : Ledger) → Closed T a → EvenSlot T (follows T (Some a))
-even_follows T a k = grind (arith, nat_tests)
-
 -- what is known of a slot when the clock has come to T
 pub record Coming (T : ℕ) (a : Ledger) : Type 0 where
   pub even : Even T a
@@ -167,9 +117,6 @@ pub record Coming (T : ℕ) (a : Ledger) : Type 0 where
 abbrev pub ComingSlot : ℕ → Option Ledger → Type 0
 ComingSlot T None = Unit {0}
 ComingSlot T (Some a) = Coming T a
-
-not_due : (T : ℕ) (a : Ledger) → (a.terms.deadline ≡ T → ⊥) → due T a ≡ a
-not_due T a later = grind (arith, nat_tests)
 
 -- every deadline that has come is paid
 pub paid_due : (T : ℕ) (x : Option Ledger) → ComingSlot T x → PaidAt T (in_slot (due T) x)

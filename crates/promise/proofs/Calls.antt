@@ -1,5 +1,5 @@
 -- Every call keeps the tasks feasible, and at a deadline nothing is left of a ready job.
-use Rattle.std.proofs.Common.{◌≡◌, ℕ, zero, suc, ◌+◌, ◌-◌, ◌*◌, ◌/◌, ◌^◌, ◌<◌, ◌≤◌, min, Bool, true, false, ltb, [], ◌∷◌, map, length, get_or, set, replicate, is_some, Some, None, Ok, Err, sum_by, Option, Result, sym, refl, ap, ◌∙◌, subst, mul-zero, arith, length-set}
+use Rattle.std.proofs.Common.{◌≡◌, ℕ, zero, suc, ◌+◌, ◌-◌, ◌*◌, ◌^◌, ◌<◌, ◌≤◌, Bool, true, false, ltb, [], ◌∷◌, map, length, get_or, set, replicate, Some, None, Ok, Err, sum_by, Option, Result, sym, refl, ap, ◌∙◌, subst, mul-zero, arith, length-set}
 use Rattle.controller.proofs.Settles.{charge_all, in_room, pass_all, runner}
 use Rattle.controller.proofs.Changing.{changed_kept, same_place, there}
 use Rattle.controller.specs.Admitting.{admission_to, is_taken, with_task}
@@ -12,7 +12,7 @@ use Rattle.controller.specs.declared.states.Runs.TheVariants.{Idle, Task as runs
 use Rattle.controller.specs.declared.states.Turn.{Turn}
 use Rattle.order.specs.Orders.{Lawful, in_range}
 use Rattle.order.specs.declared.entries.Entry.{Entry}
-use Rattle.promise.proofs.Steps.{admit_no_worse, gone_no_worse, moved_no_worse, period_no_worse, rate_no_worse, replaced}
+use Rattle.promise.proofs.Steps.{admit_no_worse, period_no_worse, rate_no_worse, replaced}
 use Rattle.promise.proofs.Time.{due_feasible}
 use Rattle.promise.proofs.Turns.{turn_feasible}
 use Rattle.promise.specs.Kept.{AdmissionKeeps, ChangeKeeps, DeadlineIsMet, EmptyIsFeasible, TurnKeeps}
@@ -25,20 +25,20 @@ use Rattle.rules.proofs.Changing.{period_fits, rate_fits}
 use Rattle.rules.specs.Admission.{admitted, why_not_admitted}
 use Rattle.rules.specs.Jobs.{charged, due_at}
 use Rattle.rules.specs.declared.admission.Reservation.{Reservation}
-use Rattle.rules.specs.Changes.{changed, may_lower, moved_by, share, why_not_period, why_not_rate, why_not_ready, why_not_wake, with_period, with_rate, woken}
+use Rattle.rules.specs.Changes.{changed, why_not_period, why_not_rate, with_period, with_rate}
 use Rattle.rules.specs.Phases.{stepped}
 use Rattle.rules.specs.Sound.{Sound}
 use Rattle.rules.specs.Tasks.{is_ready}
-use Rattle.rules.specs.Withdrawals.{goes_at_once, marked, why_not_withdrawn, withdrawn, withdrawn_slot}
+use Rattle.rules.specs.Withdrawals.{withdrawn}
 use Rattle.rules.specs.declared.changes.Change.{Change}
 use Rattle.rules.specs.declared.changes.Change.TheVariants.{Finish as finish, Period as to_period, Rate as to_rate, Wait as wait, Wake as wake}
-use Rattle.rules.specs.declared.phases.Event.TheVariants.{Finish, Wait, Wake}
+use Rattle.rules.specs.declared.phases.Event.TheVariants.{Wait}
 use Rattle.rules.specs.declared.phases.Phase.{Phase}
 use Rattle.rules.specs.declared.phases.Phase.TheVariants.{Finished, Ready, Waiting}
 use Rattle.rules.specs.declared.refusals.Refusal.{Refusal}
 use Rattle.rules.specs.declared.tasks.Task.{Task}
 use Rattle.std.proofs.lemmas.List.Sums.{get_or-le-sum_by, sum_by-cons}
-use Rattle.std.proofs.lemmas.Bool.{and_parts, cond_both, cond-false, cond-true, le-ltb, true≢false}
+use Rattle.std.proofs.lemmas.Bool.{cond-false, le-ltb, true≢false}
 use Rattle.std.proofs.lemmas.Bool.Decides.{nat_tests}
 
 -- a ready task that waits is not ready
@@ -46,9 +46,6 @@ waits : (p : Phase) → is_ready p ≡ true → is_ready (stepped p Wait) ≡ tr
 waits Ready is after = true≢false (sym after)
 waits Waiting is after = true≢false (sym is)
 waits Finished is after = true≢false (sym is)
-
-ready_from : (t : Task) → why_not_ready t ≡ None → is_ready t.phase ≡ true
-ready_from t is = grind (arith, nat_tests)
 
 -- a change that is accepted makes nothing worse
 change_no_worse : (T rates : ℕ) (t : Task) (change : Change) (u : Task) → Sound T t → changed T rates t change ≡ Ok u → NoWorse T (Some t) (Some u)

@@ -32,7 +32,6 @@ use Rattle.rules.specs.declared.refusals.Refusal.{Refusal}
 use Rattle.rules.specs.declared.tasks.Task.{Task}
 use Rattle.std.proofs.lemmas.List.{get_or-map, map-set}
 use Rattle.std.proofs.lemmas.Bool.{cond-false, le-ltb}
-use Rattle.std.proofs.lemmas.Bool.Decides.{nat_tests}
 
 pub record Good (T : ℕ) (tasks : Tasks) : Type 0 where
   pub tied : Tied T tasks (map entry_of tasks) (Unit {0})

@@ -99,18 +99,6 @@ module _ (before : Entry → Entry → Bool) (laws : Lawful before) (T : ℕ) (l
   abbrev at_rest_in : Account
   at_rest_in = record { clock = T; ledgers = ledgers; turn = None }
 
-  -- nothing changes
-  unmoved : (asked : Asked) (r : Answer) → TurnBy before r (state_in at_rest_in) → PaidBy r at_rest_in → moved asked r at_rest_in ≡ at_rest_in → Step before at_rest_in asked r (at_rest T (seen ledgers))
-  unmoved asked r turn paid same =
-      record {
-        turn = turn;
-        paid = paid;
-        goes = ap state_in same;
-        good = good;
-        even = subst (λ a. AllByRecursion (EvenSlot a.clock) a.ledgers) (sym same) even;
-        open' = tt;
-      }
-
   make_step : (sheet : List ℕ) (o : Result Tasks SheetFault) → made sheet ≡ o → Step before at_rest_in (make sheet) (result_map_both Made Faulty (make_answer o)) (at_rest 0 (made_tasks o))
   make_step sheet (Ok tasks) is =
       let e = made_enrolled sheet in

@@ -3,7 +3,6 @@ use Rattle.std.proofs.Common.{◌≡◌, ℕ, zero, suc, ◌+◌, ◌-◌, ◌^�
 use Rattle.calls.specs.Answering.{turn_at}
 use Rattle.controller.proofs.Changing.{there}
 use Rattle.controller.proofs.Lengths.{length_some, nearest_after}
-use Rattle.controller.proofs.Lists.{place_back, place_range}
 use Rattle.controller.proofs.Settles.{nearest_le}
 use Rattle.controller.specs.Changing.{task_at}
 use Rattle.controller.specs.Tasks.{Tasks}

@@ -1,5 +1,5 @@
 -- Time passes: what is owed grows by no more than the rates, and the turn's task is given a thousand for each tick.
-use Rattle.std.proofs.Common.{◌≡◌, ℕ, ◌+◌, ◌-◌, ◌*◌, ◌<◌, ◌≤◌, true, false, [], ◌∷◌, map, Some, None, sum_by, Option, refl, ap, ◌∙◌, ⊎_elim, mul_comm, mul-le-mul_left, mul-add, arith}
+use Rattle.std.proofs.Common.{◌≡◌, ℕ, ◌+◌, ◌-◌, ◌*◌, ◌<◌, ◌≤◌, true, [], ◌∷◌, map, Some, None, sum_by, Option, refl, ap, ◌∙◌, mul_comm, mul-add, arith}
 use Rattle.controller.proofs.Settles.{PassedSlot}
 use Rattle.controller.specs.Tasks.{Tasks, rates}
 use Rattle.promise.proofs.Steps.{due_no_worse}
@@ -8,7 +8,6 @@ use Rattle.rules.specs.Jobs.{charged, due_at}
 use Rattle.rules.specs.Tasks.{is_ready, rate_of, wants_to_run}
 use Rattle.rules.specs.declared.tasks.Task.{Task}
 use Rattle.std.proofs.lemmas.List.Sums.{sum_by-cons}
-use Rattle.std.proofs.lemmas.Bool.{cases_Bool}
 use Rattle.std.proofs.lemmas.Bool.Decides.{nat_tests}
 use Rattle.std.specs.List.{AllByRecursion}
 

@@ -1,47 +1,22 @@
 -- The account and the controller agree: a task seen through its ledger is the task.
-use Rattle.std.proofs.Common.{◌≡◌, ℕ, ◌+◌, ◌-◌, ◌<◌, ◌≤◌, Bool, true, false, cond, ◌&&◌, eqb, [], ◌∷◌, map, length, get_or, set, Some, None, Option, sym, refl, ap, ◌∙◌, ⊎_elim, arith}
+use Rattle.std.proofs.Common.{◌≡◌, ℕ, ◌-◌, ◌<◌, [], ◌∷◌, map, length, get_or, set, Some, None, Option, sym, refl, ap, ◌∙◌, arith}
 use Rattle.controller.specs.Settling.{charged_in}
 use Rattle.controller.specs.Tasks.{Tasks}
 use Rattle.controller.specs.declared.states.Runs.{Runs}
 use Rattle.controller.specs.declared.states.Runs.TheVariants.{Idle, Task as runs-task}
 use Rattle.promise.proofs.Sheets.{FreshSlot}
-use Rattle.promise.specs.Account.{Ledger, Ledgers, changed_by, due, follows, forgone, given_in, in_slot, left_in, opened, passing, regranted, renewed, served, spent, view}
-use Rattle.rules.specs.Changes.{becomes, is_waiting}
-use Rattle.rules.specs.Jobs.{after_deadline, charged, due_at, next_job}
+use Rattle.promise.specs.Account.{Ledger, Ledgers, changed_by, due, follows, given_in, in_slot, opened, passing, served, view}
+use Rattle.rules.specs.Changes.{becomes}
+use Rattle.rules.specs.Jobs.{charged, due_at}
 use Rattle.rules.specs.declared.changes.Change.{Change}
 use Rattle.rules.specs.declared.changes.Change.TheVariants.{Finish, Period, Rate, Wait, Wake}
 use Rattle.rules.specs.declared.tasks.Task.{Task}
 use Rattle.std.proofs.lemmas.List.{get_or-map, map-set}
-use Rattle.std.proofs.lemmas.Bool.{and_left, cases_Bool, cond_both, cond-false, cond-true}
 use Rattle.std.proofs.lemmas.Bool.Decides.{nat_tests}
 use Rattle.std.specs.List.{AllByRecursion}
 
--- a task with other ticks
-abbrev with_ticks : Task → ℕ → ℕ → Task
-with_ticks t l r =
-    record {
-      number = t.number;
-      rate = t.rate;
-      period = t.period;
-      phase = t.phase;
-      leaving = t.leaving;
-      release = t.release;
-      deadline = t.deadline;
-      left = l;
-      ran = r;
-    }
-
-same_ticks : (t : Task) (l r : ℕ) → l ≡ t.left → r ≡ t.ran → with_ticks t l r ≡ t
-same_ticks t l r left ran = grind (arith, nat_tests)
-
 pub view-opened : (t : Task) → t.ran ≡ 0 → view (opened t) ≡ t
 view-opened t none = grind (arith, nat_tests)
-
-pub view-regranted : (u : Task) (a : Ledger) → u.ran ≡ a.job.given → view (regranted u a) ≡ u
-view-regranted u a ran = grind (arith, nat_tests)
-
-pub view-forgone : (u : Task) (a : Ledger) → u.ran ≡ a.job.given → u.left ≤ left_in a.job → view (forgone u a) ≡ u
-view-forgone u a ran less = grind (arith, nat_tests)
 
 pub view-changed : (T : ℕ) (how : Change) (a : Ledger) → view (changed_by T how a) ≡ becomes T (view a) how
 view-changed T (Rate rate) a = grind (arith, nat_tests)
@@ -49,9 +24,6 @@ view-changed T (Period period) a = grind (arith, nat_tests)
 view-changed T Wait a = grind (arith, nat_tests)
 view-changed T Wake a = grind (arith, nat_tests)
 view-changed T Finish a = grind (arith, nat_tests)
-
-view-renewed : (a : Ledger) → view (renewed a) ≡ next_job (view a)
-view-renewed a = grind (arith, nat_tests)
 
 -- ticks that a task is given
 served_charged : (c : ℕ) (x : Option Ledger) → in_slot view (in_slot (served c) x) ≡ charged c (in_slot view x)
@@ -76,10 +48,6 @@ view-given (runs-task number deadline) c ledgers in' =
     let slot = get_or ledgers i None in
     map-set (in_slot view) ledgers i (in_slot (served c) slot)
     ∙ ap (set (map (in_slot view) ledgers) i) (served_charged c slot ∙ ap (charged c) (sym (get_or-map (in_slot view) ledgers i None None in')))
-
--- a deadline that has come
-follows_view : (T : ℕ) (a : Ledger) → eqb a.terms.deadline T ≡ true → in_slot view (follows T (Some a)) ≡ after_deadline (view a)
-follows_view T a now' = grind (arith, nat_tests)
 
 follows_due : (T : ℕ) (x : Option Ledger) → in_slot view (follows T (in_slot (due T) x)) ≡ due_at T (in_slot view x)
 follows_due T None = refl
