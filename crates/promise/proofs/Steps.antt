@@ -1,5 +1,5 @@
 -- Each change of one task makes nothing worse.
-use Rattle.std.proofs.Common.{◌≡◌, ℕ, ◌+◌, ◌-◌, ◌*◌, ◌<◌, ◌≤◌, true, length, get_or, set, Some, None, Option, sym, ap, ◌∙◌, ⊎_elim, mul-le-mul_right, add-mul, mul-le-mul_left, mul-add, arith}
+use Rattle.std.proofs.Common.{◌≡◌, ℕ, ◌+◌, ◌-◌, ◌*◌, ◌<◌, ◌≤◌, true, length, get_or, set, Some, None, Option, ⊎_elim, mul-le-mul_right, mul-le-mul_left, mul-add, arith}
 use Rattle.controller.specs.Tasks.{Tasks}
 use Rattle.promise.specs.Feasible.{Feasible, NoWorse, owed, spare}
 use Rattle.rules.proofs.Changing.{PeriodFits, RateFits}
@@ -14,6 +14,10 @@ use Rattle.std.proofs.lemmas.List.Sums.{sum_by-set}
 use Rattle.std.proofs.lemmas.Bool.{cases_lt}
 use Rattle.std.proofs.lemmas.Bool.Decides.{nat_tests}
 
+-- equal sums, taken so many times
+pub same_times : (n a b c d : ℕ) → a + b ≡ c + d → n * a + n * b ≡ n * c + n * d
+same_times n a b c d sums = rw (← mul-add n a b, sums, mul-add n c d)
+
 -- a slot that is no worse than another may stand in its place
 pub replaced : (T : ℕ) (tasks : Tasks) (i : ℕ) (new : Option Task) → i < length tasks → NoWorse T (get_or tasks i None) new → Feasible T tasks → Feasible T (set tasks i new)
 replaced T tasks i new lt step feasible u le =
@@ -26,16 +30,11 @@ admit_no_worse T asked u le = grind (arith, nat_tests)
 -- a rate that fits, lowered only where that is allowed
 pub rate_no_worse : (T rates : ℕ) (t : Task) (rate : ℕ) → Sound T t → RateFits T rates t rate → (rate < t.rate → may_lower T t ≡ true) → NoWorse T (Some t) (Some (with_rate T t rate))
 rate_no_worse T rates t rate s f allowed u le =
-    let R = t.rate in
-    let span = t.deadline - T in
-    let sums : rate + (R - rate) ≡ R + (rate - R) = omega arith in
-    let products : rate * span + (R - rate) * span ≡ R * span + (rate - R) * span =
-    sym (add-mul rate (R - rate) span) ∙ (ap (λ n. n * span) sums ∙ add-mul R (rate - R) span) in
-    let enough = f.enough in
+    let products = same_times (t.deadline - T) rate (t.rate - rate) t.rate (rate - t.rate) (omega arith) in
     ⊎_elim
-    (λ (low : rate < R). let may = allowed low in grind (arith, nat_tests))
-    (λ (high : R ≤ rate). let cap : R * (u - T) ≤ rate * (u - T) = mul-le-mul_right (u - T) high in grind (arith, nat_tests))
-    (cases_lt rate R)
+    (λ (low : rate < t.rate). let may = allowed low in grind (arith, nat_tests))
+    (λ (high : t.rate ≤ rate). let cap : t.rate * (u - T) ≤ rate * (u - T) = mul-le-mul_right (u - T) high in grind (arith, nat_tests))
+    (cases_lt rate t.rate)
 
 -- a period that fits, shorter only where the job is not behind
 pub period_no_worse : (T : ℕ) (t : Task) (period : ℕ) → Sound T t → PeriodFits T t period → (deadline_at t period < t.deadline → 1000 * t.left ≤ share T t) → NoWorse T (Some t) (Some (with_period t period))
@@ -43,10 +42,7 @@ period_no_worse T t period s f allowed u le =
     let R = t.rate in
     let D = t.deadline in
     let E = deadline_at t period in
-    let spans : (E - T) + (D - E) ≡ (D - T) + (E - D) = omega (arith, s.coming, f.after) in
-    let products : R * (E - T) + R * (D - E) ≡ R * (D - T) + R * (E - D) =
-    sym (mul-add R (E - T) (D - E)) ∙ (ap (λ n. R * n) spans ∙ mul-add R (D - T) (E - D)) in
-    let enough = f.enough in
+    let products = same_times R (E - T) (D - E) (D - T) (E - D) (omega (arith, s.coming, f.after)) in
     ⊎_elim
     (λ (early : E < D). let may = allowed early in grind (arith, nat_tests))
     (λ (late : D ≤ E). ⊎_elim

@@ -1,5 +1,5 @@
 -- The account and the controller agree: a task seen through its ledger is the task.
-use Rattle.std.proofs.Common.{◌≡◌, ℕ, ◌-◌, ◌<◌, [], ◌∷◌, map, length, get_or, set, Some, None, Option, sym, refl, ap, ◌∙◌, arith}
+use Rattle.std.proofs.Common.{◌≡◌, ℕ, ◌-◌, ◌<◌, [], ◌∷◌, map, length, get_or, None, Option, refl, arith}
 use Rattle.controller.specs.Settling.{charged_in}
 use Rattle.controller.specs.Tasks.{Tasks}
 use Rattle.controller.specs.declared.states.Runs.{Runs}
@@ -9,7 +9,6 @@ use Rattle.promise.specs.Account.{Ledger, Ledgers, changed_by, due, follows, giv
 use Rattle.rules.specs.Changes.{becomes}
 use Rattle.rules.specs.Jobs.{charged, due_at}
 use Rattle.rules.specs.declared.changes.Change.{Change}
-use Rattle.rules.specs.declared.changes.Change.TheVariants.{Finish, Period, Rate, Wait, Wake}
 use Rattle.rules.specs.declared.tasks.Task.{Task}
 use Rattle.std.proofs.lemmas.List.{get_or-map, map-set}
 use Rattle.std.proofs.lemmas.Bool.Decides.{nat_tests}
@@ -19,22 +18,16 @@ pub view-opened : (t : Task) → t.ran ≡ 0 → view (opened t) ≡ t
 view-opened t none = grind (arith, nat_tests)
 
 pub view-changed : (T : ℕ) (how : Change) (a : Ledger) → view (changed_by T how a) ≡ becomes T (view a) how
-view-changed T (Rate rate) a = grind (arith, nat_tests)
-view-changed T (Period period) a = grind (arith, nat_tests)
-view-changed T Wait a = grind (arith, nat_tests)
-view-changed T Wake a = grind (arith, nat_tests)
-view-changed T Finish a = grind (arith, nat_tests)
+view-changed T how a = grind (arith, nat_tests)
 
 -- ticks that a task is given
 served_charged : (c : ℕ) (x : Option Ledger) → in_slot view (in_slot (served c) x) ≡ charged c (in_slot view x)
-served_charged c None = refl
-served_charged c (Some a) = grind (arith, nat_tests)
+served_charged c x = grind (arith, nat_tests)
 
 -- time that passes shows only in the sums
 pub view-passing : (c : ℕ) (ledgers : Ledgers) → map (in_slot view) (map (in_slot (passing c)) ledgers) ≡ map (in_slot view) ledgers
 view-passing c [] = refl
-view-passing c (None ∷ ledgers) = ap (λ ts. None ∷ ts) (view-passing c ledgers)
-view-passing c (Some a ∷ ledgers) = ap (λ ts. Some (view a) ∷ ts) (view-passing c ledgers)
+view-passing c (x ∷ ledgers) = let later = view-passing c ledgers in grind (arith, nat_tests)
 
 -- the turn's task has a slot
 abbrev pub InLedgers : Runs → Ledgers → Type 0
@@ -44,22 +37,17 @@ InLedgers (runs-task number deadline) ledgers = number - 1 < length ledgers
 pub view-given : (runs : Runs) (c : ℕ) (ledgers : Ledgers) → InLedgers runs ledgers → map (in_slot view) (given_in runs c ledgers) ≡ charged_in runs c (map (in_slot view) ledgers)
 view-given Idle c ledgers in' = refl
 view-given (runs-task number deadline) c ledgers in' =
-    let i = number - 1 in
-    let slot = get_or ledgers i None in
-    map-set (in_slot view) ledgers i (in_slot (served c) slot)
-    ∙ ap (set (map (in_slot view) ledgers) i) (served_charged c slot ∙ ap (charged c) (sym (get_or-map (in_slot view) ledgers i None None in')))
+    let slot = get_or ledgers (number - 1) None in
+    rw (map-set (in_slot view) ledgers (number - 1) (in_slot (served c) slot), served_charged c slot, get_or-map (in_slot view) ledgers (number - 1) None None in')
 
 follows_due : (T : ℕ) (x : Option Ledger) → in_slot view (follows T (in_slot (due T) x)) ≡ due_at T (in_slot view x)
-follows_due T None = refl
-follows_due T (Some a) = grind (arith, nat_tests)
+follows_due T x = grind (arith, nat_tests)
 
 pub view-due : (T : ℕ) (ledgers : Ledgers) → map (in_slot view) (map (follows T) (map (in_slot (due T)) ledgers)) ≡ map (due_at T) (map (in_slot view) ledgers)
 view-due T [] = refl
-view-due T (x ∷ ledgers) =
-    ap (λ y. y ∷ map (in_slot view) (map (follows T) (map (in_slot (due T)) ledgers))) (follows_due T x) ∙ ap (λ ts. due_at T (in_slot view x) ∷ ts) (view-due T ledgers)
+view-due T (x ∷ ledgers) = let one = follows_due T x in let later = view-due T ledgers in grind (arith, nat_tests)
 
 -- the tasks of a sheet, seen through their first ledgers
 pub view_made : (T : ℕ) (tasks : Tasks) → AllByRecursion (FreshSlot T) tasks → map (in_slot view) (map (in_slot opened) tasks) ≡ tasks
 view_made T [] all = refl
-view_made T (None ∷ tasks) all = ap (λ ts. None ∷ ts) (view_made T tasks all.1)
-view_made T (Some t ∷ tasks) all = ap (λ u. Some u ∷ map (in_slot view) (map (in_slot opened) tasks)) (view-opened t all.0.ran) ∙ ap (λ ts. Some t ∷ ts) (view_made T tasks all.1)
+view_made T (x ∷ tasks) all = let later = view_made T tasks all.1 in grind (arith, nat_tests)
