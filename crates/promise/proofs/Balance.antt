@@ -1,18 +1,19 @@
 -- One task's balance: what it was given, gave up and has left is what its rates have given, less the rounding.
-use Rattle.std.proofs.Common.{◌≡◌, ℕ, ◌+◌, ◌-◌, ◌*◌, ◌<◌, ◌≤◌, true, Some, None, Option, sym, ap, ◌∙◌, ⊎_elim, arith}
-use Rattle.promise.proofs.Sheets.{Fresh}
+use Rattle.std.proofs.Common.{◌≡◌, ℕ, ◌+◌, ◌-◌, ◌*◌, ◌<◌, ◌≤◌, true, Some, None, Option, ⊎_elim, arith}
+use Rattle.controller.proofs.Settles.{PassedSlot}
+use Rattle.promise.proofs.Sheets.{FreshSlot}
 use Rattle.promise.proofs.Steps.{same_times}
 use Rattle.promise.specs.Account.{Ledger, changed_by, due, follows, in_slot, leaves, left_in, opened, passing, regranted, served, view}
 use Rattle.promise.specs.Promised.{PaidAt}
 use Rattle.rules.proofs.Changing.{PeriodFits, RateFits, period_fits, rate_fits}
 use Rattle.rules.specs.Changes.{deadline_at, why_not_changed, with_period, with_rate}
+use Rattle.rules.specs.Jobs.{Chargeable}
 use Rattle.rules.specs.Tasks.{is_ready}
 use Rattle.rules.specs.declared.changes.Change.{Change}
 use Rattle.rules.specs.declared.changes.Change.TheVariants.{Period, Rate}
-use Rattle.rules.specs.declared.phases.Phase.{Phase}
 use Rattle.rules.specs.declared.phases.Phase.TheVariants.{Finished}
 use Rattle.rules.specs.declared.tasks.Task.{Task}
-use Rattle.std.proofs.lemmas.Bool.{cases_lt, true≢false}
+use Rattle.std.proofs.lemmas.Bool.{cases_lt}
 use Rattle.std.proofs.lemmas.Bool.Decides.{nat_tests}
 
 -- ticks given, given up and left over all jobs; and what was reckoned with: a release or a change costs less than a tick
@@ -33,12 +34,9 @@ abbrev pub EvenSlot : ℕ → Option Ledger → Type 0
 EvenSlot T None = Unit {0}
 EvenSlot T (Some a) = Even T a
 
-ready_not_over : (p : Phase) → is_ready p ≡ true → p ≡ Finished → ⊥
-ready_not_over p ready is = true≢false (sym ready ∙ ap is_ready is)
-
 -- a first job
-pub even_opened : (T : ℕ) (t : Task) → Fresh T t → Even T (opened t)
-even_opened T t f = grind (arith, nat_tests)
+pub even_opened : (T : ℕ) (x : Option Task) → FreshSlot T x → EvenSlot T (in_slot opened x)
+even_opened T x f = grind (arith, nat_tests)
 
 -- a change of rate
 even_rate : (T rates : ℕ) (a : Ledger) (rate : ℕ) → is_ready a.terms.phase ≡ true → RateFits T rates (view a) rate → Even T a → Even T (regranted (with_rate T (view a) rate) a)
@@ -69,12 +67,12 @@ pub even_leaves : (T : ℕ) (a : Ledger) → Even T a → Even T (leaves a)
 even_leaves T a e = grind (arith, nat_tests)
 
 -- time passes, no later than the deadline
-pub even_passing : (T c : ℕ) (a : Ledger) → T + c ≤ a.terms.deadline → Even T a → Even (T + c) (passing c a)
-even_passing T c a coming e = grind (arith, nat_tests)
+pub even_passing : (T c : ℕ) (x : Option Ledger) → PassedSlot (T + c) (in_slot view x) → EvenSlot T x → EvenSlot (T + c) (in_slot (passing c) x)
+even_passing T c x p e = grind (arith, nat_tests)
 
 -- the turn's task is given ticks that it has left
-pub even_served : (T c : ℕ) (a : Ledger) → c ≤ left_in a.job → Even T a → Even T (served c a)
-even_served T c a few e = grind (arith, nat_tests)
+pub even_served : (T c : ℕ) (x : Option Ledger) → Chargeable c (in_slot view x) → EvenSlot T x → EvenSlot T (in_slot (served c) x)
+even_served T c x able e = grind (arith, nat_tests)
 
 -- what is known of a slot when the clock has come to T
 pub record Coming (T : ℕ) (a : Ledger) : Type 0 where
