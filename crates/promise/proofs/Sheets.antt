@@ -50,7 +50,7 @@ one_more tasks asked rest b later (Ok t) is =
     later (set tasks (t.number - 1) (Some t))
     (record {
       good = good_admitted 0 tasks r b.good (Ok t) is;
-      fresh = All-set (FreshSlot 0) tasks (t.number - 1) (Some t) (subst (Fresh 0) p.1 (admitted_fresh 0 r)) b.fresh;
+      fresh = All-set (FreshSlot 0) tasks (t.number - 1) (Some t) (rw (← p.1) (admitted_fresh 0 r)) b.fresh;
     })
 
 all_more : (tasks : Tasks) (sheet : Sheet) → Enrolled tasks → EnrolledOr (enrolled tasks sheet)
