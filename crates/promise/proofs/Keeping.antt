@@ -27,7 +27,7 @@ use Rattle.promise.proofs.Calls.{charged_feasible, paid_in_full}
 use Rattle.promise.specs.Feasible.{Feasible}
 use Rattle.promise.proofs.Good.{Good, good_admitted, good_changed, good_none, good_settled, good_withdrawn, mirror_slotted}
 use Rattle.promise.proofs.Serving.{rightly}
-use Rattle.promise.proofs.Sheets.{FreshSlot, admitted_fresh, made_enrolled}
+use Rattle.promise.proofs.Sheets.{FreshSlot, all_alike, admitted_fresh, made_enrolled}
 use Rattle.promise.proofs.Viewing.{InLedgers, view-changed, view-due, view-given, view_made, view-opened, view-passing}
 use Rattle.promise.specs.Account.{Account, Ledger, Ledgers, at, changed_by, due, follows, fresh, given_in, in_slot, leaves, moved, opened, passing, served, state_in, view}
 use Rattle.promise.specs.Carrying.{written_over}
@@ -86,10 +86,6 @@ stays before a st asked why same =
       open' = st.open';
     }
 
-none_even : (T n : ℕ) → AllByRecursion (EvenSlot T) (replicate n None)
-none_even T zero = tt
-none_even T (suc n) = (tt, none_even T n)
-
 -- the ledger behind a task
 ledger_of : (x : Option Ledger) (t : Task) → in_slot view x ≡ Some t → (l : Ledger) × (x ≡ Some l) × (view l ≡ t)
 ledger_of None t is = absurd cc
@@ -119,7 +115,7 @@ module _ (before : Entry → Entry → Bool) (laws : Lawful before) (T : ℕ) (l
         even = All-map (EvenSlot 0) (in_slot opened) (made_tasks (made sheet)) (All-weaker (FreshSlot 0) (λ x. EvenSlot 0 (in_slot opened x)) (even_opened 0) (made_tasks (made sheet)) e.fresh);
         open' = tt;
       }
-  make_step sheet (Err fault) is = record { turn = tt; paid = tt; goes = refl; good = good_none; even = none_even 0 64; open' = tt }
+  make_step sheet (Err fault) is = record { turn = tt; paid = tt; goes = refl; good = good_none; even = all_alike (EvenSlot 0) tt 64; open' = tt }
 
   admit_step : (asked : Reservation) (o : Result Task Refusal) → admission_to T (seen ledgers) asked ≡ o → Step before at_rest_in (admit asked) (result_map_both (λ done. Done) Refused (accepted o)) (at_rest T (with_task o (seen ledgers)))
   admit_step asked (Err why) is = grind (arith, nat_tests)
@@ -350,7 +346,7 @@ module _ (before : Entry → Entry → Bool) (laws : Lawful before) where
       )
 
   fresh_stands : Standing before fresh
-  fresh_stands = record { good = good_none; even = none_even 0 64; open' = tt }
+  fresh_stands = record { good = good_none; even = all_alike (EvenSlot 0) tt 64; open' = tt }
 
   -- answers that were written over any places
   pub promise_over : (asked : List Asked) (places answers : List Answer) → answers ≡ written_over (answers_to before start asked) places → Promise before fresh asked answers

@@ -59,12 +59,13 @@ all_more tasks (broken fault) b = tt
 all_more tasks (entry (note text) rest) b = all_more tasks rest b
 all_more tasks (entry (task asked) rest) b = one_more tasks asked rest b (λ next n. all_more next rest n) (admission_to 0 tasks (reservation asked)) refl
 
-none_fresh : (n : ℕ) → AllByRecursion (FreshSlot 0) (replicate n None)
-none_fresh zero = tt
-none_fresh (suc n) = (tt, none_fresh n)
+-- what holds of one slot holds of as many like it
+pub all_alike : {A : Type 0} (P : Option A → Type 0) → P None → (n : ℕ) → AllByRecursion P (replicate n None)
+all_alike P one zero = tt
+all_alike P one (suc n) = (one, all_alike P one n)
 
 none_enrolled : Enrolled no_tasks
-none_enrolled = record { good = good_none; fresh = none_fresh 64 }
+none_enrolled = record { good = good_none; fresh = all_alike (FreshSlot 0) tt 64 }
 
 or_none : (r : Result Tasks SheetFault) → EnrolledOr r → Enrolled (made_tasks r)
 or_none (Ok tasks) b = b
