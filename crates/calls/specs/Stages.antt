@@ -5,8 +5,10 @@ use Rattle.calls.specs.declared.stages.Stage.{Stage}
 use Rattle.calls.specs.declared.stages.Stage.TheVariants.{Rest, Turning}
 use Rattle.controller.specs.Tasks.{Tasks}
 use Rattle.controller.specs.Tied.{Open, Tied}
+use Rattle.controller.specs.declared.memory.TaskMemory.{TaskMemory}
 use Rattle.order.specs.declared.entries.Entry.{Entry}
 use Rattle.ready.specs.Held.{Held}
+use Rattle.ready.specs.declared.ReadyList.{Ghosts}
 
 -- the state of a controller, from its stage and its tasks
 abbrev pub state_of : Stage → Tasks → State
@@ -17,3 +19,7 @@ state_of (Turning opened) tasks = in_turn opened.turn tasks
 abbrev pub TiedAt : (Entry → Entry → Bool) → Stage → Tasks → Held → Type 0 → Type 0
 TiedAt before (Rest rest) tasks held ok = Tied rest.clock tasks held ok
 TiedAt before (Turning opened) tasks held ok = Open before opened.turn tasks held ok
+
+-- the same, of the memory and the list that are lent to a call; `lists` says what a list of type L holds
+abbrev pub TiedTo : {L O : Type 0} → Ghosts L O → (Entry → Entry → Bool) → Stage → TaskMemory → L → Type 0
+TiedTo lists before stage memory list = TiedAt before stage memory.slots (lists.held list) (lists.ok list)

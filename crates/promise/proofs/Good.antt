@@ -78,7 +78,7 @@ good_admitted T tasks asked g (Ok t) is =
 pub good_changed : (T : ℕ) (tasks : Tasks) (number : ℕ) (how : Change) → Good T tasks → (o : Option Task) → task_at tasks number ≡ o → (r : Result Task Refusal)
     → on_task o (λ t. changed T (rates tasks) t how) ≡ r → Good T (with_task r tasks)
 good_changed T tasks number how g o at (Err why) is = g
-good_changed T tasks number how g None at (Ok u) is = let z : ◌≡◌ {A = ℕ} 0 1 = cc in absurd (omega arith)
+good_changed T tasks number how g None at (Ok u) is = absurd cc
 good_changed T tasks number how g (Some t) at (Ok u) is =
     let held = map entry_of tasks in
     let kept = changed_kept T tasks held (Unit {0}) g.tied number t at how u is in
@@ -94,7 +94,7 @@ good_changed T tasks number how g (Some t) at (Ok u) is =
 -- a withdrawal
 pub good_withdrawn : (T : ℕ) (tasks : Tasks) (number : ℕ) → Good T tasks → (o : Option Task) → task_at tasks number ≡ o → (r : Result (Option Task) Refusal) → on_task o (withdrawn T) ≡ r → Good T (with_slot number r tasks)
 good_withdrawn T tasks number g o at (Err why) is = g
-good_withdrawn T tasks number g None at (Ok slot) is = let z : ◌≡◌ {A = ℕ} 0 1 = cc in absurd (omega arith)
+good_withdrawn T tasks number g None at (Ok slot) is = absurd cc
 good_withdrawn T tasks number g (Some t) at (Ok slot) is =
     let held = map entry_of tasks in
     let kept = withdrawal_kept T tasks held (Unit {0}) g.tied number t at slot is in
