@@ -20,8 +20,8 @@ pub enum Stage {
 // Begins a turn, where the clock has not come to its last tick.
 fn open_turn<L: ReadyList>(rest: Resting, memory: &TaskMemory, list: &L) -> (Stage, Answer)
     requires { TiedTo L.ReadyList L.Order.TieOrder.before (Stage.Rest rest) memory.now list.now }
-    ensures answer { result.1 ≡ rest_answer L.Order.TieOrder.before rest.clock memory.now.slots asks_begin }
-    ensures state { state_of result.0 memory.now.slots ≡ rest_next L.Order.TieOrder.before rest.clock memory.now.slots asks_begin }
+    ensures answer { result.1 ≡ rest_answer L.Order.TieOrder.before rest memory.now asks_begin }
+    ensures state { state_of result.0 memory.now ≡ rest_next L.Order.TieOrder.before rest memory.now asks_begin }
     ensures tied { TiedTo L.ReadyList L.Order.TieOrder.before result.0 memory.now list.now }
 {
     match rest.begin(memory, list) {
@@ -41,8 +41,8 @@ fn answer_at_rest<L: ReadyList>(
     list: &mut L,
 ) -> (Stage, Answer)
     requires { TiedTo L.ReadyList L.Order.TieOrder.before (Stage.Rest rest) memory.old list.old }
-    ensures answer { result.1 ≡ rest_answer L.Order.TieOrder.before rest.clock memory.old.slots (asked_by call.entry) }
-    ensures state { state_of result.0 memory.new.slots ≡ rest_next L.Order.TieOrder.before rest.clock memory.old.slots (asked_by call.entry) }
+    ensures answer { result.1 ≡ rest_answer L.Order.TieOrder.before rest memory.old (asked_by call.entry) }
+    ensures state { state_of result.0 memory.new ≡ rest_next L.Order.TieOrder.before rest memory.old (asked_by call.entry) }
     ensures tied { TiedTo L.ReadyList L.Order.TieOrder.before result.0 memory.new list.new }
 {
     match call {
@@ -80,8 +80,8 @@ fn settle_turn<L: ReadyList>(
     list: &mut L,
 ) -> (Stage, Answer)
     requires { TiedTo L.ReadyList L.Order.TieOrder.before (Stage.Turning opened) memory.old list.old }
-    ensures answer { result.1 ≡ turn_answer opened.turn (asks_settle count) }
-    ensures state { state_of result.0 memory.new.slots ≡ turn_next opened.turn memory.old.slots (asks_settle count) }
+    ensures answer { result.1 ≡ turn_answer opened (asks_settle count) }
+    ensures state { state_of result.0 memory.new ≡ turn_next opened memory.old (asks_settle count) }
     ensures tied { TiedTo L.ReadyList L.Order.TieOrder.before result.0 memory.new list.new }
 {
     match opened.settle(count, memory, list) {
@@ -101,8 +101,8 @@ fn answer_in_turn<L: ReadyList>(
     list: &mut L,
 ) -> (Stage, Answer)
     requires { TiedTo L.ReadyList L.Order.TieOrder.before (Stage.Turning opened) memory.old list.old }
-    ensures answer { result.1 ≡ turn_answer opened.turn (asked_by call.entry) }
-    ensures state { state_of result.0 memory.new.slots ≡ turn_next opened.turn memory.old.slots (asked_by call.entry) }
+    ensures answer { result.1 ≡ turn_answer opened (asked_by call.entry) }
+    ensures state { state_of result.0 memory.new ≡ turn_next opened memory.old (asked_by call.entry) }
     ensures tied { TiedTo L.ReadyList L.Order.TieOrder.before result.0 memory.new list.new }
 {
     match call {
@@ -114,8 +114,8 @@ fn answer_in_turn<L: ReadyList>(
 impl Stage {
     // A controller without tasks, at the clock 0, whatever memory and list held before.
     pub fn start<L: ReadyList>(memory: &mut TaskMemory, list: &mut L) -> Stage
-        ensures state { state_of result memory.new.slots ≡ started }
-        ensures list { L.ReadyList.held list.new ≡ map entry_of memory.new.slots }
+        ensures state { state_of result memory.new ≡ started }
+        ensures list { L.ReadyList.held list.new ≡ map entry_of memory.new }
         ensures tied { TiedTo L.ReadyList L.Order.TieOrder.before result memory.new list.new }
     {
         Stage::Rest(start(memory, list))
@@ -129,9 +129,9 @@ impl Stage {
         list: &mut L,
     ) -> (Stage, Answer)
         requires { TiedTo L.ReadyList L.Order.TieOrder.before self memory.old list.old }
-        ensures answer { result.1 ≡ answer_to L.Order.TieOrder.before (state_of self memory.old.slots) (asked_by call.entry) }
-        ensures state { state_of result.0 memory.new.slots ≡ after L.Order.TieOrder.before (state_of self memory.old.slots) (asked_by call.entry) }
-        ensures list { L.ReadyList.held list.new ≡ map entry_of memory.new.slots }
+        ensures answer { result.1 ≡ answer_to L.Order.TieOrder.before (state_of self memory.old) (asked_by call.entry) }
+        ensures state { state_of result.0 memory.new ≡ after L.Order.TieOrder.before (state_of self memory.old) (asked_by call.entry) }
+        ensures list { L.ReadyList.held list.new ≡ map entry_of memory.new }
         ensures tied { TiedTo L.ReadyList L.Order.TieOrder.before result.0 memory.new list.new }
     {
         match self {
@@ -143,9 +143,9 @@ impl Stage {
     // Ends a run, and tells where its clock stood; an open turn is given back unused.
     pub fn end<L: ReadyList>(self, memory: &mut TaskMemory, list: &mut L) -> u64
         requires { TiedTo L.ReadyList L.Order.TieOrder.before self memory.old list.old }
-        ensures clock { result ≡ (state_of self memory.old.slots).clock }
-        ensures tasks { memory.new.slots ≡ memory.old.slots }
-        ensures list { L.ReadyList.held list.new ≡ map entry_of memory.new.slots }
+        ensures clock { result ≡ (state_of self memory.old).clock }
+        ensures tasks { memory.new ≡ memory.old }
+        ensures list { L.ReadyList.held list.new ≡ map entry_of memory.new }
     {
         match self {
             Stage::Rest(rest) => rest.retire(),

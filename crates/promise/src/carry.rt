@@ -21,8 +21,8 @@ pub fn carry_out<L: ReadyList>(
     list: &mut L,
 ) -> Stage
     ensures answers { answers.new ≡ written_over (answers_to L.Order.TieOrder.before start (map asked_by calls.now)) answers.old }
-    ensures state { state_of result memory.new.slots ≡ after_all L.Order.TieOrder.before start (take (length answers.old) (map asked_by calls.now)) }
-    ensures list { L.ReadyList.held list.new ≡ map entry_of memory.new.slots }
+    ensures state { state_of result memory.new ≡ after_all L.Order.TieOrder.before start (take (length answers.old) (map asked_by calls.now)) }
+    ensures list { L.ReadyList.held list.new ≡ map entry_of memory.new }
     ensures tied { TiedTo L.ReadyList L.Order.TieOrder.before result memory.new list.new }
     ensures promise { Promise L.Order.TieOrder.before fresh (map asked_by calls.now) answers.new }
 {

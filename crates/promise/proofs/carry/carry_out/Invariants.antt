@@ -13,8 +13,8 @@ invariant-loop-answer g l =
     let before = g.L.Order.TieOrder.before in
     let rest = map asked_by (iter_rest l.asked) in
     let asked = map asked_by l.calls in
-    let s = state_of l.stage l.memory.slots in
+    let s = state_of l.stage l.memory in
     (take l.answer-index l.answers ++ written_over (answers_to before s rest) (drop l.answer-index l.answers) ≡ written_over (answers_to before start asked) l.initial.answers)
     × (after_all before s (take (length l.initial.answers - l.answer-index) rest) ≡ after_all before start (take (length l.initial.answers) asked))
     × TiedTo g.L.ReadyList before l.stage l.memory l.list
-    × (g.L.ReadyList.held l.list ≡ map entry_of l.memory.slots)
+    × (g.L.ReadyList.held l.list ≡ map entry_of l.memory)
