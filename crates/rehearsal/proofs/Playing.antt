@@ -1,58 +1,65 @@
 -- The lines of a rehearsal, written call by call.
-use Rattle.std.proofs.Common.{◌≡◌, ℕ, Bool, false, List, ◌++◌, is_some, is_err, IfOk, Some, None, Ok, Err, count_by, Result, sym, refl, ap, ◌∙◌, append_assoc, append-nil, arith}
+use Rattle.std.proofs.Common.{◌≡◌, ℕ, ◌-◌, ◌≤◌, Bool, List, [], ◌++◌, Some, None, Ok, Err, Option, Result, length, take, unwrap_or, ⊎_elim, sym, refl, ap, subst, ◌∙◌, append_assoc, append-nil, arith}
 use Rattle.controller.specs.Admitting.{accepted, with_task}
-use Rattle.controller.specs.Making.{made_tasks, make_answer}
 use Rattle.controller.specs.Tasks.{Tasks}
-use Rattle.controller.specs.declared.faults.SheetFault.{SheetFault}
 use Rattle.controller.specs.declared.states.Resting.{Resting}
 use Rattle.order.specs.declared.entries.Entry.{Entry}
-use Rattle.rehearsal.proofs.Advancing.{advances}
-use Rattle.rehearsal.specs.Lines.{line_of}
-use Rattle.rehearsal.specs.Rehearsals.{and_on, code_of, lines_of, performed, played, said_of, settled_as}
-use Rattle.rehearsal.specs.Scripts.{step_at}
+use Rattle.rehearsal.specs.Lines.{Outcome, line_of}
+use Rattle.rehearsal.specs.Rehearsals.{and_on, lines_of, record_code, recorded, said_of, settled_as}
+use Rattle.rehearsal.specs.Scripts.{Gives, Script}
 use Rattle.rehearsal.specs.Turns.{done_by}
-use Rattle.rehearsal.specs.declared.lines.Outcome.{Outcome}
-use Rattle.rehearsal.specs.declared.lines.Outcome.TheVariants.{Accepted, Refused}
+use Rattle.rehearsal.specs.declared.lines.Accepted.TheVariants.{Sheet}
+use Rattle.rehearsal.specs.declared.lines.Line.{Line}
+use Rattle.rehearsal.specs.declared.lines.Refused.TheVariants.{BadRecord}
 use Rattle.rehearsal.specs.declared.scripts.BadStep.{BadStep}
 use Rattle.rehearsal.specs.declared.scripts.Step.{Step}
 use Rattle.rules.specs.declared.refusals.Refusal.{Refusal}
 use Rattle.rules.specs.declared.tasks.Task.{Task}
-use Rattle.sheet.proofs.Readings.{reading_entry, reading_fault, reading_none}
-use Rattle.sheet.specs.Readings.{reading_from}
-use Rattle.std.proofs.lemmas.Bool.{true≢false}
+use Rattle.sheet.specs.Readings.{broken, done, entry}
+use Rattle.std.proofs.lemmas.List.{take_all}
+use Rattle.std.specs.Borrow.{Bor}
+use Rattle.std.specs.Slice.{IsGetRangeResult}
 
--- what a call that did not fail has made
-pub made_fine : {A E Q : Type 0} (r : Result A E) → is_err r ≡ false → IfOk r (λ _. Q) → Q
-made_fine (Ok a) fine h = h
-made_fine (Err e) fine h = absurd (true≢false fine)
+module _ (before : Entry → Entry → Bool) (T : ℕ) (tasks : Tasks) where
+  -- the line of the record that a script gives, and the lines behind it
+  next_line : (script : Script) (given : Option (Result Step BadStep)) (later : Script) (got : Result Step BadStep) → Gives script given later → given ≡ Some got
+      → and_on (recorded before T tasks got) (record_code got) (λ clock next. lines_of before clock next later) ≡ lines_of before T tasks script
+  next_line done given later got h e = let z : ◌≡◌ {A = ℕ} 0 1 = cc in absurd (omega arith)
+  next_line (broken bad) given later got h e =
+      let bad-one : got ≡ Err bad = cc in
+      let P : Result Step BadStep → Script → Type 0 = λ r s. and_on (recorded before T tasks r) (record_code r) (λ clock next. lines_of before clock next s) ≡ line_of T bad.code (Err (BadRecord bad.why)) in
+      subst (λ r. P r later) (sym bad-one) (subst (P (Err bad)) (sym h.1) (append-nil (line_of T bad.code (Err (BadRecord bad.why)))))
+  next_line (entry step rest) given later got h e =
+      let call : got ≡ Ok step = cc in
+      let P : Result Step BadStep → Script → Type 0 = λ r s. and_on (recorded before T tasks r) (record_code r) (λ clock next. lines_of before clock next s) ≡ lines_of before T tasks (entry step rest) in
+      subst (λ r. P r later) (sym call) (subst (P (Ok step)) (sym h.1) refl)
 
-module _ (before : Entry → Entry → Bool) (input : List ℕ) (place T : ℕ) (tasks : Tasks) (out whole : List ℕ) (inv : out ++ lines_of before T tasks (reading_from step_at input place) ≡ whole) where
-  pub play_end : step_at input place ≡ Ok None → out ≡ whole
-  play_end here = sym (append-nil out) ∙ (ap (λ r. out ++ lines_of before T tasks r) (sym (reading_none step_at advances input place here)) ∙ inv)
+  no_line : (script : Script) (given : Option (Result Step BadStep)) (later : Script) → Gives script given later → given ≡ None → lines_of before T tasks script ≡ []
+  no_line done given later h e = refl
+  no_line (broken bad) given later h e = let z : ◌≡◌ {A = ℕ} 0 1 = cc in absurd (omega arith)
+  no_line (entry step rest) given later h e = let z : ◌≡◌ {A = ℕ} 0 1 = cc in absurd (omega arith)
 
-  pub play_bad : (bad : BadStep) → step_at input place ≡ Err bad → out ++ line_of T bad.code (Refused bad.number) ≡ whole
-  play_bad bad here = ap (λ r. out ++ lines_of before T tasks r) (sym (reading_fault step_at advances input place bad here)) ∙ inv
+  -- what is written and what is still to come are the whole
+  module _ (script : Script) (given : Option (Result Step BadStep)) (later : Script) (out whole : List ℕ) (inv : out ++ lines_of before T tasks script ≡ whole) (gives : Gives script given later) where
+    pub play_end : given ≡ None → out ≡ whole
+    play_end none = sym (append-nil out) ∙ (ap (λ lines. out ++ lines) (sym (no_line script given later gives none)) ∙ inv)
 
-  pub play_step : (step : Step) (end : ℕ) → step_at input place ≡ Ok (Some (step, end)) → (rest : Resting) (next : Tasks) (outcome : Outcome) → done_by rest next outcome ≡ performed before T tasks step
-      → (out' : List ℕ) → out' ≡ out ++ line_of rest.clock (code_of step) outcome → out' ++ lines_of before rest.clock next (reading_from step_at input end) ≡ whole
-  play_step step end here rest next outcome is out' line =
-      ap (λ o. o ++ lines_of before rest.clock next (reading_from step_at input end)) line
-      ∙ (append_assoc out (line_of rest.clock (code_of step) outcome) (lines_of before rest.clock next (reading_from step_at input end))
-      ∙ (ap (λ d. out ++ and_on d (code_of step) (λ clock later. lines_of before clock later (reading_from step_at input end))) is
-      ∙ (ap (λ r. out ++ lines_of before T tasks r) (sym (reading_entry step_at advances input place step end here)) ∙ inv)))
+    pub play_on : (got : Result Step BadStep) → given ≡ Some got → (rest : Resting) (next : Tasks) (line : Line) → done_by rest next line.outcome ≡ recorded before T tasks got → line.code ≡ record_code got → line.clock ≡ rest.clock
+        → (out' : List ℕ) → out' ≡ out ++ line_of line.clock line.code line.outcome → out' ++ lines_of before rest.clock next later ≡ whole
+    play_on got some rest next line is coded clocked out' written =
+        let behind : List ℕ = lines_of before rest.clock next later in
+        ap (λ o. o ++ behind) written
+        ∙ (append_assoc out (line_of line.clock line.code line.outcome) behind
+        ∙ (ap (λ t. out ++ (line_of t line.code line.outcome ++ behind)) clocked
+        ∙ (ap (λ k. out ++ (line_of rest.clock k line.outcome ++ behind)) coded
+        ∙ (ap (λ d. out ++ and_on d (record_code got) (λ clock tasks'. lines_of before clock tasks' later)) is
+        ∙ (ap (λ lines. out ++ lines) (next_line script given later got gives some) ∙ inv)))))
 
--- the sheet's line and the lines of the calls behind it
-pub sheet_played : (before : Entry → Entry → Bool) (input : List ℕ) (place : ℕ) (from : Result Tasks SheetFault) (count clock : ℕ) (tasks : Tasks) (out₀ out₁ out₂ : List ℕ) → Ok count ≡ make_answer from → tasks ≡ made_tasks from → clock ≡ 0
-    → out₁ ≡ out₀ ++ line_of 0 0 (Accepted count) → out₂ ≡ out₁ ++ lines_of before clock tasks (reading_from step_at input place) → out₂ ≡ out₀ ++ played before input place from
-sheet_played before input place (Ok made') count clock tasks out₀ out₁ out₂ answer is zero' head rest =
-    let many : count ≡ count_by is_some made' = cc in
-    rest
-    ∙ (ap (λ o. o ++ lines_of before clock tasks (reading_from step_at input place)) head
-    ∙ (append_assoc out₀ (line_of 0 0 (Accepted count)) (lines_of before clock tasks (reading_from step_at input place))
-    ∙ (ap (λ t. out₀ ++ (line_of 0 0 (Accepted count) ++ lines_of before t tasks (reading_from step_at input place))) zero'
-    ∙ (ap (λ ts. out₀ ++ (line_of 0 0 (Accepted count) ++ lines_of before 0 ts (reading_from step_at input place))) is
-    ∙ ap (λ n. out₀ ++ (line_of 0 0 (Accepted n) ++ lines_of before 0 made' (reading_from step_at input place))) many))))
-sheet_played before input place (Err fault) count clock tasks out₀ out₁ out₂ answer is zero' head rest = let z : ◌≡◌ {A = ℕ} 0 1 = cc in absurd (omega arith)
+-- the sheet's line, before the lines of the calls
+pub play_start : (count : ℕ) (line : Line) (lines out₀ out₁ : List ℕ) → line ≡ record { clock = 0; code = 0; outcome = Ok (Sheet count) } → out₁ ≡ out₀ ++ line_of line.clock line.code line.outcome → out₁ ++ lines ≡ out₀ ++ (line_of 0 0 (Ok (Sheet count)) ++ lines)
+play_start count line lines out₀ out₁ is written =
+    ap (λ o. o ++ lines) written
+    ∙ (append_assoc out₀ (line_of line.clock line.code line.outcome) lines ∙ ap (λ l. out₀ ++ (line_of l.clock l.code l.outcome ++ lines)) is)
 
 -- a call on one task, from its answer and the tasks that it leaves
 said_accepted : {A : Type 0} (r : Result A Refusal) → said_of (accepted r) ≡ said_of r
@@ -63,3 +70,12 @@ pub call_done : (rest : Resting) (tasks after : Tasks) (answer : Result (Unit {0
     → done_by rest after outcome ≡ settled_as rest.clock tasks r
 call_done rest tasks after answer outcome r is out said =
     ap (λ ts. done_by rest ts outcome) out ∙ ap (done_by rest (with_task r tasks)) (said ∙ (ap said_of is ∙ said_accepted r))
+
+-- the first bytes, or all of them where there are no more
+pub front_made : (most : ℕ) (input : Bor (List ℕ)) (found : Option (Bor (List ℕ))) (front : Bor (List ℕ)) → IsGetRangeResult input.now 0 most found → front ≡ unwrap_or found input → front.now ≡ take most input.now
+front_made most input None front h e =
+    let short : length input.now ≤ most = ⊎_elim (λ k. omega arith) (λ k. omega arith) h.0 in
+    ap (λ b. b.now) e ∙ sym (take_all most input.now short)
+front_made most input (Some part) front h e =
+    let all : most - 0 ≡ most = omega arith in
+    ap (λ b. b.now) e ∙ (h.0.2 ∙ ap (λ n. take n input.now) all)
