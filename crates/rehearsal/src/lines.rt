@@ -1,6 +1,6 @@
 // The lines of a rehearsal.
 ghost use Rattle.std.specs.Prelude.{◌≡◌, ◌++◌, string_bytes, OnOk, Some};
-ghost use Rattle.rehearsal.specs.declared.lines.Refused.TheVariants.{BadRecord, BadSheet, ByRule};
+ghost use Rattle.rehearsal.specs.declared.lines.Refused.TheVariants.{ByRule};
 ghost use Rattle.rehearsal.specs.Lines.{accepted_as, line_of, refused_as};
 
 use crate::scripts::StepFault;
@@ -45,27 +45,11 @@ pub enum Refused {
     BadRecord(StepFault),
 }
 
-impl From<SheetFault> for Refused {
-    ghost from_gives = { λ fault whole. whole ≡ BadSheet fault };
-
-    fn from(fault: SheetFault) -> Refused {
-        Refused::BadSheet(fault)
-    }
-}
-
 impl From<Refusal> for Refused {
     ghost from_gives = { λ why whole. whole ≡ ByRule why };
 
-    fn from(why: Refusal) -> Refused {
-        Refused::ByRule(why)
-    }
-}
-
-impl From<StepFault> for Refused {
-    ghost from_gives = { λ fault whole. whole ≡ BadRecord fault };
-
-    fn from(fault: StepFault) -> Refused {
-        Refused::BadRecord(fault)
+    fn from(value: Refusal) -> Refused {
+        Refused::ByRule(value)
     }
 }
 

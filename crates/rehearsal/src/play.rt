@@ -11,7 +11,6 @@ ghost use Rattle.rehearsal.specs.Turns.{done_by};
 use crate::lines::{Accepted, Line, Outcome, Refused, write_line};
 use crate::scripts::{BadStep, Records, Step};
 use crate::turns::take_turn;
-use controller::faults::SheetFault;
 use controller::make::make;
 use controller::memory::TaskMemory;
 use controller::states::Resting;
@@ -44,7 +43,7 @@ fn outcome_of(answer: Result<(), Refusal>) -> Outcome
     Ok(Accepted::Call)
 }
 
-// Carries out one call record.
+// Carries out one call. Memory and list are lent to it, as to each call of the controller.
 fn perform<L: ReadyList>(
     rest: Resting,
     step: Step,
@@ -68,35 +67,32 @@ fn perform<L: ReadyList>(
     }
 }
 
-// Carries out one call record, and gives its line. A bad one changes nothing.
+// Carries out a call record, and gives its line. A bad one changes nothing.
 fn play_record<L: ReadyList>(
     rest: Resting,
-    record: Result<Step, BadStep>,
+    found: Result<Step, BadStep>,
     memory: &mut TaskMemory,
     list: &mut L,
 ) -> (Resting, Line)
     requires { Tied rest.clock memory.old.slots (L.ReadyList.held list.old) (L.ReadyList.ok list.old) }
-    ensures done { done_by result.0 memory.new.slots result.1.outcome ≡ recorded L.Order.TieOrder.before rest.clock memory.old.slots «record» }
-    ensures code { result.1.code ≡ record_code «record» }
+    ensures done { done_by result.0 memory.new.slots result.1.outcome ≡ recorded L.Order.TieOrder.before rest.clock memory.old.slots found }
+    ensures code { result.1.code ≡ record_code found }
     ensures clock { result.1.clock ≡ result.0.clock }
     ensures tied { Tied result.0.clock memory.new.slots (L.ReadyList.held list.new) (L.ReadyList.ok list.new) }
 {
-    let (rest, code, outcome) = match record {
+    let (rest, code, outcome) = match found {
         Ok(step) => {
             let (rest, outcome) = perform(rest, step, memory, list);
             (rest, u8::from(step.code()), outcome)
         }
         Err(bad) => (rest, bad.code, Err(Refused::BadRecord(bad.why))),
     };
-    let clock = rest.clock();
-    (
-        rest,
-        Line {
-            clock,
-            code,
-            outcome,
-        },
-    )
+    let line = Line {
+        clock: rest.clock(),
+        code,
+        outcome,
+    };
+    (rest, line)
 }
 
 // The line of a sheet with so many tasks, and a line for each call record from an offset on.
@@ -115,8 +111,8 @@ fn play<L: ReadyList>(
         return (first, Err(error));
     }
     let mut rest = first;
-    for record in records {
-        let (next, line) = play_record(rest, record, memory, list);
+    for found in records {
+        let (next, line) = play_record(rest, found, memory, list);
         rest = next;
         if let Err(error) = write_line(out, line) {
             return (rest, Err(error));
@@ -174,8 +170,8 @@ pub fn rehearse<L: ReadyList>(
     match read_opening(input) {
         Ok((sheet, place)) => play_sheet(input, sheet, place, list, &mut out)?,
         Err(fault) => {
-            let fault = SheetFault::InRecord(fault);
-            write_line(&mut out, Line::of_sheet(Err(Refused::BadSheet(fault))))?
+            let line = Line::of_sheet(Err(Refused::BadSheet(fault.into())));
+            write_line(&mut out, line)?
         }
     }
     Ok(out)

@@ -25,8 +25,8 @@ pub enum Code {
 impl From<Code> for u8 {
     ghost from_gives = { λ code byte. byte ≡ byte_of code };
 
-    fn from(code: Code) -> u8 {
-        code as u8
+    fn from(value: Code) -> u8 {
+        value as u8
     }
 }
 
@@ -35,8 +35,8 @@ impl TryFrom<u8> for Code {
 
     ghost try_from_gives = { λ byte outcome. outcome ≡ code_in byte };
 
-    fn try_from(byte: u8) -> Result<Code, StepFault> {
-        match byte {
+    fn try_from(value: u8) -> Result<Code, StepFault> {
+        match value {
             1 => Ok(Code::Admit),
             2 => Ok(Code::Rate),
             3 => Ok(Code::Period),
@@ -89,8 +89,8 @@ pub enum StepFault {
 impl From<RecordFault> for StepFault {
     ghost from_gives = { λ fault whole. whole ≡ InField fault };
 
-    fn from(fault: RecordFault) -> StepFault {
-        StepFault::InField(fault)
+    fn from(value: RecordFault) -> StepFault {
+        StepFault::InField(value)
     }
 }
 
@@ -98,8 +98,8 @@ impl From<RecordFault> for StepFault {
 impl From<StepFault> for u8 {
     ghost from_gives = { λ fault number. number ≡ number_of fault };
 
-    fn from(fault: StepFault) -> u8 {
-        match fault {
+    fn from(value: StepFault) -> u8 {
+        match value {
             StepFault::UnknownCode => 3,
             StepFault::InField(fault) => fault.told().number,
         }

@@ -3,7 +3,7 @@ ghost use Rattle.std.specs.Prelude.{◌≡◌};
 ghost use Rattle.controller.specs.Tied.{Open, Tied};
 ghost use Rattle.rehearsal.specs.Turns.{done_by, turned, turned_by};
 
-use crate::lines::{Accepted, Outcome, Refused};
+use crate::lines::{Accepted, Outcome};
 use controller::memory::TaskMemory;
 use controller::states::{OpenTurn, Resting};
 use ready::ReadyList;
@@ -22,7 +22,7 @@ fn settle_turn<L: ReadyList>(
     let runs = opened.turn().runs;
     match opened.settle(count as u64, memory, list) {
         Ok(rest) => (rest, Ok(Accepted::Ran(runs))),
-        Err((opened, why)) => (opened.give_up(memory, list), Err(Refused::ByRule(why))),
+        Err((opened, why)) => (opened.give_up(memory, list), Err(why.into())),
     }
 }
 
@@ -39,6 +39,6 @@ pub(crate) fn take_turn<L: ReadyList>(
 {
     match rest.begin(memory, list) {
         Ok(opened) => settle_turn(opened, count, memory, list),
-        Err((rest, why)) => (rest, Err(Refused::ByRule(why))),
+        Err((rest, why)) => (rest, Err(why.into())),
     }
 }

@@ -7,10 +7,10 @@ use Rattle.rehearsal.specs.Scripts.{script_from}
 use Rattle.rehearsal.specs.declared.lines.Accepted.TheVariants.{Sheet}
 
 -- what is written and what is still to come are the whole
-abbrev pub invariant-loop-record : goal.invariant-loop-record
-invariant-loop-record g l =
-    (string_bytes l.out ++ lines_of g.L.Order.TieOrder.before l.rest.clock l.memory.slots (script_from l.record-iterator.input.now l.record-iterator.place)
+abbrev pub invariant-loop-found : goal.invariant-loop-found
+invariant-loop-found g l =
+    (string_bytes l.out ++ lines_of g.L.Order.TieOrder.before l.rest.clock l.memory.slots (script_from l.found-iterator.input.now l.found-iterator.place)
     ≡ string_bytes l.fn.out ++ (line_of 0 0 (Ok (Sheet l.fn.tasks)) ++ lines_of g.L.Order.TieOrder.before l.fn.first.clock l.fn.memory.slots (script_from l.fn.records.input.now l.fn.records.place)))
     × Tied l.rest.clock l.memory.slots (g.L.ReadyList.held l.list) (g.L.ReadyList.ok l.list)
-    × (goal.iterator-loop-record g).can_next l.record-iterator
-    × (goal.iterator-loop-record g).is_finite l.record-iterator
+    × (goal.iterator-loop-found g).can_next l.found-iterator
+    × (goal.iterator-loop-found g).is_finite l.found-iterator
