@@ -71,7 +71,7 @@ inside : (input : List ℕ) (place : ℕ) (found : Step × ℕ) → step_at inpu
 inside input place found e =
     ⊎_elim (λ h. h) (λ h. let z : ◌≡◌ {A = ℕ} 0 1 = cc (part_none call_in input place h) in absurd (omega arith)) (cases_lt place (length input))
 
-goes_on : (input : List ℕ) (place : ℕ) (found : Step) (end : ℕ) → step_at input place ≡ Ok (Some (found, end)) → (place < end) × (end ≤ length input)
+pub goes_on : (input : List ℕ) (place : ℕ) (found : Step) (end : ℕ) → step_at input place ≡ Ok (Some (found, end)) → (place < end) × (end ≤ length input)
 unfolding part_at
 goes_on input place found end e =
     let past = IfOk-at_ok (Past place (place + length (drop place input))) e (record_ends (drop place input) place) in

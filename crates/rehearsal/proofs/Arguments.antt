@@ -1,5 +1,5 @@
 -- The numbers of a call, read one after another.
-use Rattle.std.proofs.Common.{◌≡◌, ℕ, suc, ◌+◌, ◌-◌, ◌<◌, List, [], ◌∷◌, ◌++◌, length, set, take, Ok, Err, Result, sym, refl, ap, ◌∙◌, append_assoc, append-nil, arith}
+use Rattle.std.proofs.Common.{◌≡◌, ℕ, suc, ◌+◌, ◌-◌, ◌<◌, List, [], ◌∷◌, ◌++◌, length, set, take, Ok, Err, Result, sym, refl, ap, ◌∙◌, append_assoc, arith}
 use Rattle.rehearsal.specs.Scripts.{numbers_in}
 use Rattle.sheet.specs.Readings.{Left, and_then}
 use Rattle.sheet.specs.Records.{field_in}
@@ -10,16 +10,6 @@ use Rattle.std.proofs.lemmas.List.{take_more_set}
 -- the numbers that were read, before those still to come
 abbrev pub behind : List ℕ → Result (List ℕ × ℕ) RecordFault → Result (List ℕ × ℕ) RecordFault
 behind read later = and_then later (λ more. Ok (read ++ more.0, more.1))
-
-behind_none : (r : Result (List ℕ × ℕ) RecordFault) → r ≡ behind [] r
-behind_none (Ok more) = refl
-behind_none (Err fault) = refl
-
--- at first none is read
-pub behind_first : (N : ℕ) (left : Left) → numbers_in N left ≡ behind [] (numbers_in (N - 0) left)
-behind_first N left =
-    let all : N ≡ N - 0 = omega arith in
-    behind_none (numbers_in N left) ∙ ap (λ n. behind [] (numbers_in n left)) all
 
 behind_one : (read : List ℕ) (value : ℕ) (r : Result (List ℕ × ℕ) RecordFault) → behind read (behind (value ∷ []) r) ≡ behind (read ++ value ∷ []) r
 behind_one read value (Ok more) = ap (λ xs. Ok (xs, more.1)) (sym (append_assoc read (value ∷ []) more.0))
@@ -34,15 +24,3 @@ behind_more xs i N left found lt many e =
     ∙ (ap (λ f. behind (take i xs) (and_then f (λ first. behind (first.0.value ∷ []) (numbers_in (N - (i + 1)) first.1)))) (sym e)
     ∙ (behind_one (take i xs) found.0.value (numbers_in (N - (i + 1)) found.1)
     ∙ ap (λ ys. behind ys (numbers_in (N - (i + 1)) found.1)) (sym (take_more_set xs i found.0.value (omega arith)))))
-
--- or it is at fault
-pub behind_fault : (read : List ℕ) (i N : ℕ) (left : Left) (fault : RecordFault) → i < N → Err fault ≡ field_in left → behind read (numbers_in (N - i) left) ≡ Err fault
-behind_fault read i N left fault lt e =
-    let more : N - i ≡ suc (N - (i + 1)) = omega arith in
-    ap (λ n. behind read (numbers_in n left)) more
-    ∙ ap (λ f. behind read (and_then f (λ first. behind (first.0.value ∷ []) (numbers_in (N - (i + 1)) first.1)))) (sym e)
-
--- or all are read
-pub behind_all : (xs : List ℕ) (i N : ℕ) (left : Left) → N - i ≡ 0 → behind (take i xs) (numbers_in (N - i) left) ≡ Ok (take i xs, left.place)
-behind_all xs i N left none =
-    ap (λ n. behind (take i xs) (numbers_in n left)) none ∙ ap (λ ys. Ok (ys, left.place)) (append-nil (take i xs))

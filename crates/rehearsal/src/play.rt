@@ -44,6 +44,7 @@ fn outcome_of(answer: Result<(), Refusal>) -> Outcome
 }
 
 // Carries out one call. Memory and list are lent to it, as to each call of the controller.
+#[tactic(auto, using(crate::proofs::Playing::said_accepted))]
 fn perform<L: ReadyList>(
     rest: Resting,
     step: Step,

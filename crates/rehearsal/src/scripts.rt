@@ -215,6 +215,7 @@ impl<'a> Iterator for Records<'a> {
 
     ghost remaining = { λ s. at_most (length s.input.now - s.place) };
 
+    #[tactic(auto, using(crate::proofs::Advancing::goes_on, crate::proofs::Advancing::gives_step, crate::proofs::Advancing::gives_none, crate::proofs::Advancing::gives_bad, crate::proofs::Advancing::bad_inside))]
     fn next(&mut self) -> Option<Result<Step, BadStep>> {
         match step_at(self.input, self.place) {
             Ok(Some((step, end))) => {
