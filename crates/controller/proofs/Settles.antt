@@ -1,13 +1,11 @@
 -- What settle rests on: within a turn no deadline is jumped over, the turn's task has the ticks that it is charged,
 -- and the tasks are sound again once every deadline that has come is dealt with.
-use Rattle.std.proofs.Common.{◌≡◌, ℕ, ◌+◌, ◌-◌, ◌^◌, ◌≤◌, min, Bool, true, false, eqb, ltb, [], ◌∷◌, map, length, get_or, set, Some, None, Ok, Err, fold, Option, sym, refl, ap, ◌∙◌, subst, ⊎_elim, arith}
+use Rattle.std.proofs.Common.{◌≡◌, ℕ, ◌+◌, ◌-◌, ◌^◌, ◌≤◌, min, Bool, eqb, ltb, [], ◌∷◌, map, length, get_or, set, Some, None, fold, Option, sym, refl, ap, ◌∙◌, subst, arith}
 use Rattle.controller.proofs.Lengths.{nearest_after}
-use Rattle.controller.specs.Settling.{Runner, charged_in, settled_tasks, settling}
+use Rattle.controller.specs.Settling.{Runner, charged_in, settled_tasks}
 use Rattle.controller.specs.Tasks.{Mirrors, Tasks, rates}
 use Rattle.controller.specs.Tied.{Open, Tied}
 use Rattle.controller.specs.Turns.{length_of, nearest, runs_of}
-use Rattle.controller.specs.declared.states.OpenTurn.{OpenTurn}
-use Rattle.controller.specs.declared.states.Resting.{Resting}
 use Rattle.controller.specs.declared.states.Runs.{Runs}
 use Rattle.controller.specs.declared.states.Runs.TheVariants.{Idle, Task as runs-task}
 use Rattle.controller.specs.declared.states.Turn.{Turn}
@@ -24,8 +22,7 @@ use Rattle.rules.specs.declared.tasks.Task.{Task}
 use Rattle.std.proofs.ByRecursion.{All-get_or, All-map, All-set, All-weaker}
 use Rattle.std.proofs.lemmas.List.{set-get_or}
 use Rattle.std.proofs.lemmas.List.Sums.{sum_by-cons, sum_by-set}
-use Rattle.std.proofs.lemmas.Bool.{cases_Bool, cond_both, cond-false, cond-true, le-ltb, ne_eqb}
-use Rattle.rules.specs.declared.refusals.Refusal.TheVariants.{CountTooHigh}
+use Rattle.std.proofs.lemmas.Bool.{cond_both, cond-false, le-ltb, ne_eqb}
 use Rattle.std.specs.List.{AllByRecursion}
 
 abbrev pub PassedSlot : ℕ → Option Task → Type 0
@@ -174,16 +171,3 @@ settled_none turn tasks sound =
     let same : T + 0 ≡ T = omega arith in
     cond-false (ltb turn.length 0) tasks (map (due_at (T + 0)) (charged_in turn.runs 0 tasks)) (le-ltb turn.length 0 (omega arith))
     ∙ (ap (λ t. map (due_at t) (charged_in turn.runs 0 tasks)) same ∙ (ap (map (due_at T)) (charged_none turn.runs tasks) ∙ none_due T tasks sound))
-
--- a turn that was settled has moved the clock by its count
-pub settled_clock : (opened : OpenTurn) (c : ℕ) (rest : Resting) → Ok rest ≡ settling opened c → rest.clock ≡ opened.turn.start + c
-settled_clock opened c rest is =
-    let later : Resting = record { clock = opened.turn.start + c } in
-    ⊎_elim
-    (λ (high : ltb opened.turn.length c ≡ true).
-    let no' : settling opened c ≡ Err (opened, CountTooHigh) = cond-true (ltb opened.turn.length c) (Err (opened, CountTooHigh)) (Ok later) high in
-    let z : ◌≡◌ {A = ℕ} 0 1 = cc in absurd (omega arith))
-    (λ (low : ltb opened.turn.length c ≡ false).
-    let yes' : settling opened c ≡ Ok later = cond-false (ltb opened.turn.length c) (Err (opened, CountTooHigh)) (Ok later) low in
-    let same : rest ≡ later = cc in ap (λ r. r.clock) same)
-    (cases_Bool (ltb opened.turn.length c))

@@ -1,8 +1,6 @@
 -- Settling a turn.
 use Rattle.std.specs.Prelude.{ℕ, ◌+◌, ◌-◌, ◌≤◌, cond, map, None, Ok, Err, Result, nat_lt, slice_index_or, slice_set}
 use Rattle.controller.specs.Tasks.{Tasks}
-use Rattle.controller.specs.declared.states.OpenTurn.{OpenTurn}
-use Rattle.controller.specs.declared.states.Resting.{Resting}
 use Rattle.controller.specs.declared.states.Runs.{Runs}
 use Rattle.controller.specs.declared.states.Runs.TheVariants.{Task, Idle}
 use Rattle.controller.specs.declared.states.Turn.{Turn}
@@ -26,5 +24,5 @@ abbrev pub settled_tasks : Turn → ℕ → Tasks → Tasks
 settled_tasks turn c tasks = cond (nat_lt turn.length c) tasks (map (due_at (turn.start + c)) (charged_in turn.runs c tasks))
 
 -- settle's answer: the controller at rest with the clock advanced, or the turn back, still open
-abbrev pub settling : OpenTurn → ℕ → Result Resting (OpenTurn × Refusal)
-settling open' c = cond (nat_lt open'.turn.length c) (Err (open', CountTooHigh)) (Ok (record { clock = open'.turn.start + c }))
+abbrev pub settling : Turn → ℕ → Result ℕ (Turn × Refusal)
+settling turn c = cond (nat_lt turn.length c) (Err (turn, CountTooHigh)) (Ok (turn.start + c))

@@ -2,11 +2,10 @@
 use Rattle.std.specs.Prelude.{◌≡◌, ℕ, ◌^◌, ◌<◌, ◌≤◌, Bool, Some, None, Ok, Err, Option, Result}
 use Rattle.controller.specs.Tasks.{Mirrors, Tasks, rates}
 use Rattle.controller.specs.Turns.{begun}
-use Rattle.controller.specs.declared.states.OpenTurn.{OpenTurn}
-use Rattle.controller.specs.declared.states.Resting.{Resting}
 use Rattle.controller.specs.declared.states.Turn.{Turn}
 use Rattle.order.specs.declared.entries.Entry.{Entry}
 use Rattle.ready.specs.Held.{Held, first_of}
+use Rattle.ready.specs.declared.ReadyList.{Ghosts}
 use Rattle.rules.specs.Sound.{SoundSlot}
 use Rattle.rules.specs.declared.refusals.Refusal.{Refusal}
 use Rattle.std.specs.List.{AllByRecursion}
@@ -25,14 +24,22 @@ pub record Open (before : Entry → Entry → Bool) (turn : Turn) (tasks : Tasks
   pub early : turn.start < 2 ^ 40
   pub asked : turn ≡ begun turn.start tasks (first_of before held)
 
-abbrev pub OpenAfter : {E : Type 0} → (Entry → Entry → Bool) → Result OpenTurn E → Tasks → Held → Type 0 → Type 0
-OpenAfter before (Ok open') tasks held ok = Open before open'.turn tasks held ok
-OpenAfter before (Err back) tasks held ok = Unit {0}
+-- the ties to the tasks and the list that are lent to a call; `lists` says what a list of type L holds, and when its memory is in order
+abbrev pub TiedTo : {L O : Type 0} → Ghosts L O → ℕ → Tasks → L → Type 0
+TiedTo lists T tasks list = Tied T tasks (lists.held list) (lists.ok list)
+
+abbrev pub OpenOn : {L O : Type 0} → Ghosts L O → (Entry → Entry → Bool) → Turn → Tasks → L → Type 0
+OpenOn lists before turn tasks list = Open before turn tasks (lists.held list) (lists.ok list)
+
+-- begin opened the turn, or handed the controller back
+abbrev pub OpenAfter : {L O E : Type 0} → Ghosts L O → (Entry → Entry → Bool) → Result Turn E → Tasks → L → Type 0
+OpenAfter lists before (Ok turn) tasks list = OpenOn lists before turn tasks list
+OpenAfter lists before (Err back) tasks list = Unit {0}
 
 -- after settle the controller rests, or its turn is still open
-abbrev pub AfterSettle : (Entry → Entry → Bool) → Result Resting (OpenTurn × Refusal) → Tasks → Held → Type 0 → Type 0
-AfterSettle before (Ok rest) tasks held ok = Tied rest.clock tasks held ok
-AfterSettle before (Err (open', why)) tasks held ok = Open before open'.turn tasks held ok
+abbrev pub AfterSettle : {L O : Type 0} → Ghosts L O → (Entry → Entry → Bool) → Result ℕ (Turn × Refusal) → Tasks → L → Type 0
+AfterSettle lists before (Ok T) tasks list = TiedTo lists T tasks list
+AfterSettle lists before (Err (turn, why)) tasks list = OpenOn lists before turn tasks list
 
 -- an entry's number is that of a slot
 abbrev pub InTable : Option Entry → Type 0
@@ -40,6 +47,6 @@ InTable None = Unit {0}
 InTable (Some e) = (1 ≤ e.number) × (e.number ≤ 64)
 
 -- no turn is of length 0
-abbrev pub LongEnough : {E : Type 0} → Result OpenTurn E → Type 0
-LongEnough (Ok open') = 0 < open'.turn.length
+abbrev pub LongEnough : {E : Type 0} → Result Turn E → Type 0
+LongEnough (Ok turn) = 0 < turn.length
 LongEnough (Err back) = Unit {0}

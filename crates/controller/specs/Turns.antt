@@ -1,8 +1,6 @@
 -- Turns: what begin opens.
 use Rattle.std.specs.Prelude.{ℕ, ◌-◌, ◌^◌, min, cond, Some, None, Ok, Err, fold, Option, Result, ◌==◌, slice_index_or}
 use Rattle.controller.specs.Tasks.{Tasks}
-use Rattle.controller.specs.declared.states.OpenTurn.{OpenTurn}
-use Rattle.controller.specs.declared.states.Resting.{Resting}
 use Rattle.controller.specs.declared.states.Runs.{Runs}
 use Rattle.controller.specs.declared.states.Runs.TheVariants.{Task, Idle}
 use Rattle.controller.specs.declared.states.Turn.{Turn}
@@ -30,5 +28,5 @@ abbrev pub begun : ℕ → Tasks → Option Entry → Turn
 begun T tasks first = record { start = T; length = length_of T tasks first; runs = runs_of first }
 
 -- begin's answer: the open turn, or the controller back where the clock has come to its last tick
-abbrev pub beginning : Resting → Tasks → Option Entry → Result OpenTurn (Resting × Refusal)
-beginning rest tasks first = cond (rest.clock == 2 ^ 40) (Err (rest, ClockAtEnd)) (Ok (record { turn = begun rest.clock tasks first }))
+abbrev pub beginning : ℕ → Tasks → Option Entry → Result Turn (ℕ × Refusal)
+beginning T tasks first = cond (T == 2 ^ 40) (Err (T, ClockAtEnd)) (Ok (begun T tasks first))

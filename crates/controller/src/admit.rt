@@ -2,47 +2,33 @@
 ghost use Rattle.std.specs.Prelude.{◌≡◌, ◌≤◌, map, length};
 ghost use Rattle.controller.specs.Admitting.{accepted, admission_to, with_task};
 ghost use Rattle.controller.specs.Tasks.{rates as rates_of};
-ghost use Rattle.controller.specs.Tied.{Tied};
+ghost use Rattle.controller.specs.Tied.{TiedTo};
 ghost use Rattle.rules.specs.Tasks.{entry_of};
 
-use crate::changes::task_at;
 use crate::memory::TaskMemory;
 use crate::states::Resting;
-use crate::store::store;
 use ready::ReadyList;
 use rules::admission::{Reservation, admit};
 use rules::refusals::Refusal;
-use rules::tasks::rate_of;
 
-// The rates in force of all tasks, leaving ones included.
-pub(crate) fn rates(memory: &TaskMemory) -> u32
-    requires many { length memory.now.slots ≡ 64 }
-    requires shared { rates_of memory.now.slots ≤ 1000 }
-    ensures { result ≡ rates_of memory.now.slots }
-{
-    let mut sum = 0;
-    for slot in memory.slots.iter() {
-        sum += rate_of(*slot);
+impl TaskMemory {
+    // Admits a task at the clock, its first job released then.
+    pub(crate) fn enrol<L: ReadyList>(
+        &mut self,
+        clock: u64,
+        asked: Reservation,
+        list: &mut L,
+    ) -> Result<(), Refusal>
+        requires { TiedTo L.ReadyList clock self.old list.old }
+        ensures answer { result ≡ accepted (admission_to clock self.old asked) }
+        ensures tasks { self.new ≡ with_task (admission_to clock self.old asked) self.old }
+        ensures tied { TiedTo L.ReadyList clock self.new list.new }
+    {
+        let taken = self.task_at(asked.number).is_some();
+        let task = admit(clock, taken, self.rates(), asked)?;
+        self.store(list, task.number as usize - 1, Some(task));
+        Ok(())
     }
-    sum
-}
-
-// Admits a task at the clock, its first job released then.
-pub(crate) fn enrol<L: ReadyList>(
-    clock: u64,
-    asked: Reservation,
-    memory: &mut TaskMemory,
-    list: &mut L,
-) -> Result<(), Refusal>
-    requires { Tied clock memory.old.slots (L.ReadyList.held list.old) (L.ReadyList.ok list.old) }
-    ensures answer { result ≡ accepted (admission_to clock memory.old.slots asked) }
-    ensures tasks { memory.new.slots ≡ with_task (admission_to clock memory.old.slots asked) memory.old.slots }
-    ensures tied { Tied clock memory.new.slots (L.ReadyList.held list.new) (L.ReadyList.ok list.new) }
-{
-    let taken = task_at(memory, asked.number).is_some();
-    let task = admit(clock, taken, rates(memory), asked)?;
-    store(memory, list, task.number as usize - 1, Some(task));
-    Ok(())
 }
 
 impl Resting {
@@ -53,12 +39,12 @@ impl Resting {
         memory: &mut TaskMemory,
         list: &mut L,
     ) -> Result<(), Refusal>
-        requires { Tied self.now.clock memory.old.slots (L.ReadyList.held list.old) (L.ReadyList.ok list.old) }
-        ensures answer { result ≡ accepted (admission_to self.now.clock memory.old.slots asked) }
-        ensures tasks { memory.new.slots ≡ with_task (admission_to self.now.clock memory.old.slots asked) memory.old.slots }
-        ensures list { L.ReadyList.held list.new ≡ map entry_of memory.new.slots }
-        ensures tied { Tied self.now.clock memory.new.slots (L.ReadyList.held list.new) (L.ReadyList.ok list.new) }
+        requires { TiedTo L.ReadyList self.now memory.old list.old }
+        ensures answer { result ≡ accepted (admission_to self.now memory.old asked) }
+        ensures tasks { memory.new ≡ with_task (admission_to self.now memory.old asked) memory.old }
+        ensures list { L.ReadyList.held list.new ≡ map entry_of memory.new }
+        ensures tied { TiedTo L.ReadyList self.now memory.new list.new }
     {
-        enrol(self.clock, asked, memory, list)
+        memory.enrol(self.clock, asked, list)
     }
 }

@@ -1,6 +1,6 @@
 // Begin: the turn that the ready list and the deadlines ask for.
 ghost use Rattle.std.specs.Prelude.{◌≡◌, ◌≤◌, length};
-ghost use Rattle.controller.specs.Tied.{InTable, LongEnough, OpenAfter, Tied};
+ghost use Rattle.controller.specs.Tied.{InTable, LongEnough, OpenAfter, TiedTo};
 ghost use Rattle.controller.specs.Turns.{beginning, length_of, nearest as nearest_of, runs_of};
 ghost use Rattle.ready.specs.Held.{first_of};
 
@@ -8,45 +8,36 @@ use crate::memory::TaskMemory;
 use crate::states::{LAST_TICK, OpenTurn, Resting, Runs, Turn};
 use order::entries::Entry;
 use ready::ReadyList;
-use rules::jobs::{left_of, sooner};
+use rules::jobs::left_of;
 use rules::refusals::Refusal;
 
-// The nearest deadline of any task, or the last tick where that is sooner.
-fn nearest(memory: &TaskMemory) -> u64
-    requires { length memory.now.slots ≡ 64 }
-    ensures { result ≡ nearest_of memory.now.slots }
-{
-    let mut time = LAST_TICK;
-    for slot in memory.slots.iter() {
-        time = sooner(time, *slot);
-    }
-    time
-}
-
-// The ticks that a turn of the first entry may last.
-fn turn_length(clock: u64, memory: &TaskMemory, first: Option<Entry>) -> u64
-    requires many { length memory.now.slots ≡ 64 }
-    requires first { InTable first }
-    requires room { clock ≤ nearest_of memory.now.slots }
-    ensures { result ≡ length_of clock memory.now.slots first }
-{
-    let room = nearest(memory) - clock;
-    match first {
-        None => room,
-        Some(e) => left_of(memory.slots[e.number as usize - 1]).min(room),
+impl TaskMemory {
+    // The ticks that a turn of the first entry may last.
+    fn turn_length(&self, clock: u64, first: Option<Entry>) -> u64
+        requires first { InTable first }
+        requires room { clock ≤ nearest_of self.now }
+        ensures { result ≡ length_of clock self.now first }
+    {
+        let room = self.nearest() - clock;
+        match first {
+            None => room,
+            Some(e) => left_of(self.slots[e.number as usize - 1]).min(room),
+        }
     }
 }
 
 // Who has the processor: an empty list's first is none, and its turn is idle.
-fn runs_of(first: Option<Entry>) -> Runs
-    ensures { result ≡ runs_of first }
-{
-    match first {
-        None => Runs::Idle,
-        Some(e) => Runs::Task {
-            number: e.number,
-            deadline: e.deadline,
-        },
+impl From<Option<Entry>> for Runs {
+    ghost from_gives = { λ first runs. runs ≡ runs_of first };
+
+    fn from(value: Option<Entry>) -> Runs {
+        match value {
+            None => Runs::Idle,
+            Some(e) => Runs::Task {
+                number: e.number,
+                deadline: e.deadline,
+            },
+        }
     }
 }
 
@@ -57,9 +48,9 @@ impl Resting {
         memory: &TaskMemory,
         list: &L,
     ) -> Result<OpenTurn, (Resting, Refusal)>
-        requires { Tied self.clock memory.now.slots (L.ReadyList.held list.now) (L.ReadyList.ok list.now) }
-        ensures answer { result ≡ beginning self memory.now.slots (first_of L.Order.TieOrder.before (L.ReadyList.held list.now)) }
-        ensures tied { OpenAfter L.Order.TieOrder.before result memory.now.slots (L.ReadyList.held list.now) (L.ReadyList.ok list.now) }
+        requires { TiedTo L.ReadyList self memory.now list.now }
+        ensures answer { result ≡ beginning self memory.now (first_of L.Order.TieOrder.before (L.ReadyList.held list.now)) }
+        ensures tied { OpenAfter L.ReadyList L.Order.TieOrder.before result memory.now list.now }
         ensures length { LongEnough result }
     {
         if self.clock == LAST_TICK {
@@ -67,12 +58,12 @@ impl Resting {
         }
         let Resting { clock } = self;
         let first = list.first();
-        let length = turn_length(clock, memory, first);
+        let length = memory.turn_length(clock, first);
         Ok(OpenTurn {
             turn: Turn {
                 start: clock,
                 length,
-                runs: runs_of(first),
+                runs: Runs::from(first),
             },
         })
     }

@@ -1,6 +1,6 @@
 // What is wrong with a sheet: a fault of its bytes, or a task that may not be admitted.
 ghost use Rattle.std.specs.Prelude.{◌≡◌};
-ghost use Rattle.controller.specs.Faults.{place_of, told as told_of};
+ghost use Rattle.controller.specs.Faults.{place_of};
 ghost use Rattle.controller.specs.declared.faults.SheetFault.TheVariants.{InRecord};
 ghost use Rattle.sheet.specs.Values.{task_value};
 
@@ -22,15 +22,17 @@ impl From<RecordFault> for SheetFault {
     }
 }
 
-impl SheetFault {
-    // The fault as it is reported: number, layer and place.
-    pub fn told(self) -> Told
-        ensures { result ≡ told_of self }
-    {
-        match self {
-            SheetFault::InRecord(fault) => fault.told(),
+// The fault as it is reported: number, layer and place.
+impl From<SheetFault> for Told {
+    ghost use Rattle.controller.specs.Faults.{told};
+
+    ghost from_gives = { λ fault shown. shown ≡ told fault };
+
+    fn from(value: SheetFault) -> Told {
+        match value {
+            SheetFault::InRecord(fault) => Told::from(fault),
             SheetFault::InTable(why, place) => Told {
-                number: why.code(),
+                number: u8::from(why),
                 layer: 3,
                 place,
             },

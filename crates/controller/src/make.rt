@@ -2,94 +2,72 @@
 ghost use Rattle.std.specs.Prelude.{◌≡◌, map, length, is_some, count_by};
 ghost use Rattle.controller.specs.Making.{after_record, enrolled, made, made_tasks, make_answer, with_tasks};
 ghost use Rattle.controller.specs.Tasks.{no_tasks};
-ghost use Rattle.controller.specs.Tied.{Tied};
+ghost use Rattle.controller.specs.Tied.{TiedTo};
 ghost use Rattle.rules.specs.Tasks.{entry_of};
 ghost use Rattle.sheet.specs.Records.{task as task_of};
 ghost use Rattle.sheet.specs.Sheets.{sheet_of};
 ghost use Rattle.sheet.specs.Values.{record_value, task_value};
 
-use crate::admit::enrol;
 use crate::faults::{SheetFault, place_of};
 use crate::memory::TaskMemory;
 use crate::states::Resting;
-use crate::store::clear;
 use ready::ReadyList;
 use rules::admission::Reservation;
 use sheet::records::{Record, TaskRecord, record_at};
 
-// One task of the sheet, admitted at the clock 0.
-fn enrol_task<L: ReadyList>(
-    task: TaskRecord,
-    memory: &mut TaskMemory,
-    list: &mut L,
-) -> Result<(), SheetFault>
-    requires { Tied 0 memory.old.slots (L.ReadyList.held list.old) (L.ReadyList.ok list.old) }
-    ensures answer { with_tasks result memory.new.slots ≡ after_record memory.old.slots (task_of (task_value task.entry)) }
-    ensures tied { Tied 0 memory.new.slots (L.ReadyList.held list.new) (L.ReadyList.ok list.new) }
-{
-    let asked = Reservation {
-        number: task.number.value,
-        rate: task.rate.value,
-        period: task.period.value,
-    };
-    match enrol(0, asked, memory, list) {
-        Ok(()) => Ok(()),
-        Err(why) => Err(SheetFault::InTable(why, place_of(why, task))),
-    }
-}
-
-// One record of the sheet: a task is admitted, a note passed over.
-fn enrol_record<L: ReadyList>(
-    found: Record,
-    memory: &mut TaskMemory,
-    list: &mut L,
-) -> Result<(), SheetFault>
-    requires { Tied 0 memory.old.slots (L.ReadyList.held list.old) (L.ReadyList.ok list.old) }
-    ensures answer { with_tasks result memory.new.slots ≡ after_record memory.old.slots (record_value found.entry) }
-    ensures tied { Tied 0 memory.new.slots (L.ReadyList.held list.new) (L.ReadyList.ok list.new) }
-{
-    match found {
-        Record::Task(task) => enrol_task(task, memory, list),
-        Record::Note { .. } => Ok(()),
-    }
-}
-
-// All records of the sheet, from the left; the first fault ends it.
-fn load<L: ReadyList>(sheet: &[u8], memory: &mut TaskMemory, list: &mut L) -> Result<(), SheetFault>
-    requires { Tied 0 memory.old.slots (L.ReadyList.held list.old) (L.ReadyList.ok list.old) }
-    ensures answer { with_tasks result memory.new.slots ≡ enrolled memory.old.slots (sheet_of sheet.now) }
-    ensures tied { Tied 0 memory.new.slots (L.ReadyList.held list.new) (L.ReadyList.ok list.new) }
-{
-    let mut place = 0;
-    while let Some(found) = record_at(sheet, place)? {
-        enrol_record(found.record, memory, list)?;
-        place = found.end;
-    }
-    Ok(())
-}
-
-// How many tasks there are.
-fn count(memory: &TaskMemory) -> u32
-    requires { length memory.now.slots ≡ 64 }
-    ensures { result ≡ count_by is_some memory.now.slots }
-{
-    let mut tasks = 0;
-    for slot in memory.slots.iter() {
-        if slot.is_some() {
-            tasks += 1;
+impl TaskMemory {
+    // One task of the sheet, admitted at the clock 0.
+    fn enrol_task<L: ReadyList>(&mut self, task: TaskRecord, list: &mut L) -> Result<(), SheetFault>
+        requires { TiedTo L.ReadyList 0 self.old list.old }
+        ensures answer { with_tasks result self.new ≡ after_record self.old (task_of (task_value task.entry)) }
+        ensures tied { TiedTo L.ReadyList 0 self.new list.new }
+    {
+        let asked = Reservation {
+            number: task.number.value,
+            rate: task.rate.value,
+            period: task.period.value,
+        };
+        match self.enrol(0, asked, list) {
+            Ok(()) => Ok(()),
+            Err(why) => Err(SheetFault::InTable(why, place_of(why, task))),
         }
     }
-    tasks
+
+    // One record of the sheet: a task is admitted, a note passed over.
+    fn enrol_record<L: ReadyList>(&mut self, found: Record, list: &mut L) -> Result<(), SheetFault>
+        requires { TiedTo L.ReadyList 0 self.old list.old }
+        ensures answer { with_tasks result self.new ≡ after_record self.old (record_value found.entry) }
+        ensures tied { TiedTo L.ReadyList 0 self.new list.new }
+    {
+        match found {
+            Record::Task(task) => self.enrol_task(task, list),
+            Record::Note { .. } => Ok(()),
+        }
+    }
+
+    // All records of the sheet, from the left; the first fault ends it.
+    fn load<L: ReadyList>(&mut self, sheet: &[u8], list: &mut L) -> Result<(), SheetFault>
+        requires { TiedTo L.ReadyList 0 self.old list.old }
+        ensures answer { with_tasks result self.new ≡ enrolled self.old (sheet_of sheet.now) }
+        ensures tied { TiedTo L.ReadyList 0 self.new list.new }
+    {
+        let mut place = 0;
+        while let Some(found) = record_at(sheet, place)? {
+            self.enrol_record(found.record, list)?;
+            place = found.end;
+        }
+        Ok(())
+    }
 }
 
 // A controller without tasks, at the clock 0, whatever memory and list held before.
 pub fn start<L: ReadyList>(memory: &mut TaskMemory, list: &mut L) -> Resting
-    ensures clock { result.clock ≡ 0 }
-    ensures tasks { memory.new.slots ≡ no_tasks }
-    ensures list { L.ReadyList.held list.new ≡ map entry_of memory.new.slots }
-    ensures tied { Tied result.clock memory.new.slots (L.ReadyList.held list.new) (L.ReadyList.ok list.new) }
+    ensures clock { result ≡ 0 }
+    ensures tasks { memory.new ≡ no_tasks }
+    ensures list { L.ReadyList.held list.new ≡ map entry_of memory.new }
+    ensures tied { TiedTo L.ReadyList result memory.new list.new }
 {
-    clear(memory, list);
+    memory.clear(list);
     Resting { clock: 0 }
 }
 
@@ -100,16 +78,16 @@ pub fn make<L: ReadyList>(
     list: &mut L,
 ) -> (Resting, Result<u32, SheetFault>)
     ensures answer { result.1 ≡ make_answer (made sheet.now) }
-    ensures clock { result.0.clock ≡ 0 }
-    ensures tasks { memory.new.slots ≡ made_tasks (made sheet.now) }
-    ensures list { L.ReadyList.held list.new ≡ map entry_of memory.new.slots }
-    ensures tied { Tied result.0.clock memory.new.slots (L.ReadyList.held list.new) (L.ReadyList.ok list.new) }
+    ensures clock { result.0 ≡ 0 }
+    ensures tasks { memory.new ≡ made_tasks (made sheet.now) }
+    ensures list { L.ReadyList.held list.new ≡ map entry_of memory.new }
+    ensures tied { TiedTo L.ReadyList result.0 memory.new list.new }
 {
     let rest = start(memory, list);
-    match load(sheet, memory, list) {
-        Ok(()) => (rest, Ok(count(memory))),
+    match memory.load(sheet, list) {
+        Ok(()) => (rest, Ok(memory.count())),
         Err(fault) => {
-            clear(memory, list);
+            memory.clear(list);
             (rest, Err(fault))
         }
     }

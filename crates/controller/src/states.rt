@@ -2,15 +2,27 @@
 // Each is plain numbers; tasks and list are lent to every call, and the contracts tie them to the state.
 ghost use Rattle.std.specs.Prelude.{◌≡◌};
 
+use std::marker::Model;
+
 // The clock's last tick, 2^40.
 pub const LAST_TICK: u64 = 1_099_511_627_776;
 
-// Between turns.
+// Between turns. Contracts see its clock.
 pub struct Resting {
     pub(crate) clock: u64,
 }
 
-// Who has the processor in a turn.
+impl Model for Resting {
+    ghost use Rattle.std.specs.Prelude.{ℕ};
+
+    ghost Value = { ℕ };
+
+    ghost view = { λ rest. rest.clock };
+
+    ghost inverse = { λ clock. record { clock = clock } };
+}
+
+// Who has the processor in a turn. An idle turn is a case with a name: an option of a task would not say that nothing runs.
 #[derive(Clone, Copy, PartialEq, Eq, Debug)]
 pub enum Runs {
     Task { number: u32, deadline: u64 },
@@ -24,21 +36,31 @@ pub struct Turn {
     pub runs: Runs,
 }
 
-// A turn that was begun: it is settled, and until then no other call is to be had.
+// A turn that was begun: it is settled, and until then no other call is to be had. Contracts see the turn.
 pub struct OpenTurn {
     pub(crate) turn: Turn,
 }
 
+impl Model for OpenTurn {
+    ghost use Rattle.controller.specs.declared.states.Turn.{Turn};
+
+    ghost Value = { Turn };
+
+    ghost view = { λ opened. opened.turn };
+
+    ghost inverse = { λ turn. record { turn = turn } };
+}
+
 impl Resting {
     pub fn clock(&self) -> u64
-        ensures { result ≡ self.now.clock }
+        ensures { result ≡ self.now }
     {
         self.clock
     }
 
     // Gives the controller up, and tells where its clock stood.
     pub fn retire(self) -> u64
-        ensures { result ≡ self.clock }
+        ensures { result ≡ self }
     {
         let Resting { clock } = self;
         clock
@@ -47,7 +69,7 @@ impl Resting {
 
 impl OpenTurn {
     pub fn turn(&self) -> Turn
-        ensures { result ≡ self.now.turn }
+        ensures { result ≡ self.now }
     {
         self.turn
     }

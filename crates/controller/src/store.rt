@@ -1,9 +1,10 @@
 // The one writer of tasks: it keeps the table and the ready list together.
 ghost use Rattle.std.specs.Prelude.{◌≡◌, ◌+◌, ◌-◌, ◌<◌, true, slice_set};
 ghost use Rattle.controller.specs.Tasks.{Fits, InSlot, Mirrors, no_tasks};
-ghost use Rattle.controller.specs.Tied.{Tied};
+ghost use Rattle.controller.specs.Tied.{TiedTo};
 ghost use Rattle.order.specs.Orders.{in_range};
 ghost use Rattle.ready.specs.Held.{entry_at};
+ghost use Rattle.rules.specs.Tasks.{entry_of};
 
 use crate::memory::TaskMemory;
 use order::entries::Entry;
@@ -35,31 +36,45 @@ fn relist<L: ReadyList>(list: &mut L, number: u32, was: Option<Entry>, is: Optio
     }
 }
 
-// Writes a slot: the only function that does.
-pub(crate) fn store<L: ReadyList>(
-    memory: &mut TaskMemory,
+// Writes the slot of a number: the only function that writes one.
+pub(crate) fn rewrite<L: ReadyList>(
+    slot: &mut Option<Task>,
     list: &mut L,
-    place: usize,
+    number: u32,
     new: Option<Task>,
 )
-    requires place { place < 64 }
-    requires fits { InSlot place new }
-    requires mirror { Mirrors memory.old.slots (L.ReadyList.held list.old) }
+    requires range { in_range number ≡ true }
+    requires held { entry_at (L.ReadyList.held list.old) number ≡ entry_of slot.old }
+    requires fits { InSlot (number - 1) new }
     requires memory { L.ReadyList.ok list.old }
-    ensures tasks { memory.new.slots ≡ slice_set memory.old.slots place new }
-    ensures mirror { Mirrors memory.new.slots (L.ReadyList.held list.new) }
+    ensures slot { slot.new ≡ new }
+    ensures list { L.ReadyList.held list.new ≡ slice_set (L.ReadyList.held list.old) (number - 1) (entry_of new) }
     ensures memory { L.ReadyList.ok list.new }
 {
-    let old = memory.slots[place];
-    memory.slots[place] = new;
-    relist(list, place as u32 + 1, entry_of(old), entry_of(new));
+    relist(list, number, entry_of(*slot), entry_of(new));
+    *slot = new;
 }
 
-// Leaves no task and an empty list, whatever the memory held before.
-pub(crate) fn clear<L: ReadyList>(memory: &mut TaskMemory, list: &mut L)
-    ensures tasks { memory.new.slots ≡ no_tasks }
-    ensures tied { Tied 0 memory.new.slots (L.ReadyList.held list.new) (L.ReadyList.ok list.new) }
-{
-    memory.slots = [None; 64];
-    list.empty();
+impl TaskMemory {
+    // Writes the slot at a place.
+    pub(crate) fn store<L: ReadyList>(&mut self, list: &mut L, place: usize, new: Option<Task>)
+        requires place { place < 64 }
+        requires fits { InSlot place new }
+        requires mirror { Mirrors self.old (L.ReadyList.held list.old) }
+        requires memory { L.ReadyList.ok list.old }
+        ensures tasks { self.new ≡ slice_set self.old place new }
+        ensures mirror { Mirrors self.new (L.ReadyList.held list.new) }
+        ensures memory { L.ReadyList.ok list.new }
+    {
+        rewrite(&mut self.slots[place], list, place as u32 + 1, new);
+    }
+
+    // Leaves no task and an empty list, whatever the memory held before.
+    pub(crate) fn clear<L: ReadyList>(&mut self, list: &mut L)
+        ensures tasks { self.new ≡ no_tasks }
+        ensures tied { TiedTo L.ReadyList 0 self.new list.new }
+    {
+        self.slots = [None; 64];
+        list.empty();
+    }
 }

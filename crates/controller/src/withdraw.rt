@@ -1,16 +1,15 @@
 // Withdrawal: a task goes at once, or at its deadline.
 ghost use Rattle.std.specs.Prelude.{◌≡◌, map};
-ghost use Rattle.controller.specs.Tied.{Tied};
+ghost use Rattle.controller.specs.Tied.{TiedTo};
 ghost use Rattle.controller.specs.Withdrawing.{departing, with_slot, withdrawal_at};
 ghost use Rattle.rules.specs.Tasks.{entry_of};
 
-use crate::changes::task_at;
 use crate::memory::TaskMemory;
 use crate::states::Resting;
-use crate::store::store;
 use ready::ReadyList;
 use rules::refusals::Refusal;
-use rules::withdrawals::{Departure, departure_of, withdraw};
+use rules::task_at::TaskAt;
+use rules::withdrawals::{Departure, departure_of};
 
 impl Resting {
     // Withdraws the task that has the number, and tells when it goes. A refusal changes nothing.
@@ -20,17 +19,19 @@ impl Resting {
         memory: &mut TaskMemory,
         list: &mut L,
     ) -> Result<Departure, Refusal>
-        requires { Tied self.now.clock memory.old.slots (L.ReadyList.held list.old) (L.ReadyList.ok list.old) }
-        ensures answer { result ≡ departing (withdrawal_at self.now.clock memory.old.slots number) }
-        ensures tasks { memory.new.slots ≡ with_slot number (withdrawal_at self.now.clock memory.old.slots number) memory.old.slots }
-        ensures list { L.ReadyList.held list.new ≡ map entry_of memory.new.slots }
-        ensures tied { Tied self.now.clock memory.new.slots (L.ReadyList.held list.new) (L.ReadyList.ok list.new) }
+        requires { TiedTo L.ReadyList self.now memory.old list.old }
+        ensures answer { result ≡ departing (withdrawal_at self.now memory.old number) }
+        ensures tasks { memory.new ≡ with_slot number (withdrawal_at self.now memory.old number) memory.old }
+        ensures list { L.ReadyList.held list.new ≡ map entry_of memory.new }
+        ensures tied { TiedTo L.ReadyList self.now memory.new list.new }
     {
-        let Some(task) = task_at(memory, number) else {
-            return Err(Refusal::NoSuchTask);
-        };
-        let slot = withdraw(self.clock, task)?;
-        store(memory, list, number as usize - 1, slot);
+        let task = memory.task_at(number).ok_or(Refusal::NoSuchTask)?;
+        let slot = TaskAt {
+            clock: self.clock,
+            task,
+        }
+        .withdraw()?;
+        memory.store(list, number as usize - 1, slot);
         Ok(departure_of(slot))
     }
 }

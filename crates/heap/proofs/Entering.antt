@@ -1,27 +1,27 @@
 -- Put: the tree with a new entry behind its last.
-use Rattle.std.proofs.Common.{◌≡◌, ℕ, ◌+◌, ◌-◌, ◌<◌, ◌≤◌, Bool, true, false, set, is_some, Some, None, count_by, Option, sym, ap, ◌∙◌, subst, ⊎_elim, arith, length-set}
+use Rattle.std.proofs.Common.{◌≡◌, ℕ, ◌+◌, ◌-◌, ◌<◌, ◌≤◌, Bool, true, set, is_some, not, Some, None, count_by, sym, ap, ◌∙◌, arith, length-set}
 use Rattle.heap.proofs.Paths.{as_held, by}
 use Rattle.heap.proofs.Moves.{entry_kept, entry_laid, place_kept, place_laid, resized}
-use Rattle.heap.proofs.Standing.{count_set, found_holds, held_is, numbered, some_found, some_none}
-use Rattle.heap.specs.Sifts.{BeforeChildren, Holed}
-use Rattle.heap.specs.Sound.{Ordered, Sound, Stands, entry_in, found, held_in, laid, parent, place_in, where_in}
+use Rattle.heap.proofs.Standing.{count_set, held_is, numbered}
+use Rattle.heap.specs.Sifts.{Holed}
+use Rattle.heap.specs.Sound.{Ordered, Sound, Stands, entry_in, held_in, laid, parent, place_in}
 use Rattle.heap.specs.declared.memory.Tree.{Tree}
 use Rattle.order.specs.Orders.{in_range}
 use Rattle.order.specs.declared.entries.Entry.{Entry}
-use Rattle.ready.proofs.Slots.{entry_slot, entry_at-set_other, entry_at-set_same, slot_at-some, free_yes, none_from_empty, number_high, slot_back, slotted_set}
-use Rattle.ready.specs.Held.{Held, entry_at, free, put_in}
+use Rattle.ready.proofs.Slots.{entry_at-set_other, entry_at-set_same, slot_at-some, none_from_empty, number_high, slot_back, slotted_set}
+use Rattle.ready.specs.Held.{Held, entry_at, free, holds, put_in}
 use Rattle.std.proofs.lemmas.List.Sums.{count_by-le-length}
-use Rattle.std.proofs.lemmas.Bool.{cases_eq, cond-true}
+use Rattle.std.proofs.lemmas.Bool.{and_parts, cond-true, not-true}
 
 -- the tree with an entry behind its last, which is still to sift up
-abbrev pub grown : Tree → Entry → Tree
-grown tree e = laid (resized tree (tree.len + 1)) tree.len e
+abbrev pub grown : (tree : Tree) → tree.len + 1 ≤ 64 → Entry → Tree
+grown tree room e = laid (resized tree (tree.len + 1) room) tree.len e
 
 -- a tree, and an entry with a task number that it does not hold
 module _ (tree : Tree) (held : Held) (s : Stands tree held) (e : Entry) (range : in_range e.number ≡ true) (free' : entry_at held e.number ≡ None) where
   -- no entry of the tree has the new one's number
   fresh : (place : ℕ) → place < tree.len → (entry_in tree place).number ≡ e.number → ⊥
-  fresh place lt same = some_none (entry_in tree place) (sym (s.kept place lt) ∙ (ap (entry_at held) same ∙ free'))
+  fresh place lt same = grind (arith, s.kept place)
 
   -- one entry more is held
   counted : count_by is_some (set held (e.number - 1) (Some e)) + 0 ≡ count_by is_some held + 1
@@ -31,17 +31,19 @@ module _ (tree : Tree) (held : Held) (s : Stands tree held) (e : Entry) (range :
   put_room : tree.len + 1 ≤ 64
   put_room = omega (arith, counted, s.count, count_by-le-length is_some (set held (e.number - 1) (Some e)), length-set held (e.number - 1) (Some e), s.slotted.many)
 
+-- there is room for it in the memory
+module _ (tree : Tree) (held : Held) (s : Stands tree held) (e : Entry) (range : in_range e.number ≡ true) (free' : entry_at held e.number ≡ None) (room : tree.len + 1 ≤ 64) where
   -- its number is not 0
   number_low : 0 < e.number
   number_low = omega (arith, slot_back held e.number (sym range))
 
   -- the tree holds the new entry besides what it held
-  stands_put : Stands (grown tree e) (set held (e.number - 1) (Some e))
+  stands_put : Stands (grown tree room e) (set held (e.number - 1) (Some e))
   stands_put =
       let n = tree.len in
       let held' = set held (e.number - 1) (Some e) in
-      let new = grown tree e in
-      let here : entry_in new n ≡ e = entry_laid tree n e (omega (arith, put_room, s.memory)) in
+      let new = grown tree room e in
+      let here : entry_in new n ≡ e = entry_laid tree n e (omega (arith, room, s.memory)) in
       let noted : place_in new e.number ≡ n = place_laid tree n e (omega (arith, slot_back held e.number (sym range), s.index, number_high held e.number (sym range))) in
       let mine : entry_at held' e.number ≡ Some e = entry_at-set_same held e.number (Some e) s.slotted range in
       let others : (number : ℕ) → (number ≡ e.number → ⊥) → entry_at held' number ≡ entry_at held number = λ number ne. entry_at-set_other held e.number number (Some e) number_low ne in
@@ -49,67 +51,42 @@ module _ (tree : Tree) (held : Held) (s : Stands tree held) (e : Entry) (range :
         slotted = slotted_set held (e.number - 1) (Some e) s.slotted (λ a is. let same : e ≡ a = cc in ap (λ x. x.number) (sym same) ∙ slot_back held e.number (sym range));
         memory = length-set tree.entries n e ∙ s.memory;
         index = length-set tree.places (e.number - 1) n ∙ s.index;
-        room = put_room;
-        count = omega (arith, counted, s.count);
-        kept = λ place lt. ⊎_elim
-            (λ (is : place ≡ n). subst (λ a. entry_at held' a.number ≡ Some a) (sym (ap (entry_in new) is ∙ here)) mine)
-            (λ (ne : place ≡ n → ⊥). subst (λ a. entry_at held' a.number ≡ Some a) (sym (entry_kept tree n e place ne))
-            (others (entry_in tree place).number (fresh place (omega arith)) ∙ s.kept place (omega arith)))
-            (cases_eq place n);
-        indexed = λ place lt. ⊎_elim
-            (λ (is : place ≡ n). subst (λ a. place_in new a.number ≡ place) (sym (ap (entry_in new) is ∙ here)) (noted ∙ sym is))
-            (λ (ne : place ≡ n → ⊥). subst (λ a. place_in new a.number ≡ place) (sym (entry_kept tree n e place ne))
-            (place_kept tree n e (entry_in tree place).number (numbered tree held s place (omega arith)).0 number_low (fresh place (omega arith)) ∙ s.indexed place (omega arith)))
-            (cases_eq place n);
-        all = λ a is. ⊎_elim
-            (λ (same : a.number ≡ e.number).
-            let both : Some e ≡ Some a = sym mine ∙ (ap (entry_at held') (sym same) ∙ is) in
-            let one : e ≡ a = cc in
-            subst (λ p. (p < n + 1) × (entry_in new p ≡ a)) (sym (ap (place_in new) same ∙ noted)) (omega arith, here ∙ one))
-            (λ (ne : a.number ≡ e.number → ⊥).
-            let old : entry_at held a.number ≡ Some a = sym (others a.number ne) ∙ is in
-            let there = s.all a old in
-            let low : 0 < a.number = (slot_at-some held a.number a old).0 in
-            subst (λ p. (p < n + 1) × (entry_in new p ≡ a)) (sym (place_kept tree n e a.number low number_low ne))
-            (omega (arith, there.0), entry_kept tree n e (place_in tree a.number) (λ same. omega (arith, there.0)) ∙ there.1))
-            (cases_eq a.number e.number);
+        count = omega (arith, counted tree held s e range free', s.count);
+        kept = λ place lt. grind (arith, here, mine, others (entry_in tree place).number, entry_kept tree n e place, s.kept place, fresh tree held s e range free' place);
+        indexed = λ place lt. grind (arith, here, noted, entry_kept tree n e place, s.indexed place, fresh tree held s e range free' place, numbered tree held s place, place_kept tree n e (entry_in tree place).number);
+        all = λ a is. grind (arith, here, noted, mine, others a.number, s.all a, slot_at-some held a.number a, place_kept tree n e a.number, entry_kept tree n e (place_in tree a.number));
       }
 
   -- only the step up from the new entry may be out of order
-  holed_put : (before : Entry → Entry → Bool) → Ordered before tree
-      → Holed before (set held (e.number - 1) (Some e)) (grown tree e) tree.len × BeforeChildren before (grown tree e) tree.len
-  holed_put before ordered = (
-    record {
-      stands = stands_put;
-      within = omega arith;
-      others = λ k lk lt nk np. by before (entry_kept tree tree.len e (parent k) np) (entry_kept tree tree.len e k nk) (ordered k lk (omega arith));
-      across = λ k lk lt child low. absurd (omega arith);
-    },
-    λ k lk lt child. absurd (omega arith),
-  )
+  holed_put : (before : Entry → Entry → Bool) → Ordered before tree → Holed before (set held (e.number - 1) (Some e)) (grown tree room e) tree.len
+  holed_put before ordered = record {
+    stands = stands_put;
+    within = omega arith;
+    others = λ k lk lt nk np. by before (entry_kept tree tree.len e (parent k) np) (entry_kept tree tree.len e k nk) (ordered k lk (omega arith));
+    across = λ k lk lt child low. absurd (omega arith);
+  }
 
--- what put may say of an entry whose number the tree does not hold
-pub record Entering (before : Entry → Entry → Bool) (tree : Tree) (e : Entry) : Type 0 where
-  pub answer : true ≡ free (held_in tree) e.number
-  pub list : (after : Held) → after ≡ held_in (grown tree e) → after ≡ put_in (held_in tree) e
-  pub holed : Holed before (held_in (grown tree e)) (grown tree e) tree.len
-  pub below : BeforeChildren before (grown tree e) tree.len
+-- what push may say of an entry whose number the tree does not hold
+pub record Entering (before : Entry → Entry → Bool) (tree : Tree) (room : tree.len + 1 ≤ 64) (e : Entry) : Type 0 where
+  pub list : held_in (grown tree room e) ≡ put_in (held_in tree) e
+  pub holed : Holed before (held_in (grown tree room e)) (grown tree room e) tree.len
 
--- put of a task number that the index does not find
-pub entering : (before : Entry → Entry → Bool) (tree : Tree) → Sound before tree → (e : Entry) → true ≡ in_range e.number
-    → (place : Option ℕ) → place ≡ where_in tree e.number → false ≡ is_some place → Entering before tree e
-entering before tree ok e range place looked miss =
-    let number = e.number in
-    let held = held_in tree in
-    let held' = set held (number - 1) (Some e) in
-    let empty : is_some (entry_at held number) ≡ false =
-    sym (found_holds tree held ok.stands number) ∙ (sym (some_found (found tree number) (place_in tree number)) ∙ (ap is_some (sym looked) ∙ sym miss)) in
-    let nothing : entry_at held number ≡ None = none_from_empty (entry_at held number) empty in
-    let yes' : true ≡ free held number = free_yes held number range (sym empty ∙ ap is_some (entry_slot held number (sym range))) in
-    let open' = holed_put tree held ok.stands e (sym range) nothing before ok.ordered in
-    record {
-      answer = yes';
-      list = λ after is. is ∙ (held_is (grown tree e) held' open'.0.stands ∙ sym (cond-true (free held number) held' held (sym yes')));
-      holed = as_held before (grown tree e) held' tree.len open'.0;
-      below = open'.1;
-    }
+module _ (before : Entry → Entry → Bool) (tree : Tree) (ok : Sound before tree) (e : Entry) (is : free (held_in tree) e.number ≡ true) where
+  range_put : in_range e.number ≡ true
+  range_put = (and_parts (in_range e.number) (not (holds (held_in tree) e.number)) is).0
+
+  free_put : entry_at (held_in tree) e.number ≡ None
+  free_put = none_from_empty (entry_at (held_in tree) e.number) (not-true (holds (held_in tree) e.number) (and_parts (in_range e.number) (not (holds (held_in tree) e.number)) is).1)
+
+  pub room_put : tree.len + 1 ≤ 64
+  room_put = put_room tree (held_in tree) ok.stands e range_put free_put
+
+  pub entering : (room : tree.len + 1 ≤ 64) → Entering before tree room e
+  entering room =
+      let held = held_in tree in
+      let held' = set held (e.number - 1) (Some e) in
+      let holed = holed_put tree held ok.stands e range_put free_put room before ok.ordered in
+      record {
+        list = held_is (grown tree room e) held' holed.stands ∙ sym (cond-true (free held e.number) held' held is);
+        holed = as_held before (grown tree room e) held' tree.len holed;
+      }

@@ -1,16 +1,15 @@
 -- Moves of entries in the tree: what a write changes, and that an exchange of two entries keeps what the tree holds.
-use Rattle.std.proofs.Common.{◌≡◌, ℕ, ◌-◌, ◌<◌, ◌≤◌, length, Some, sym, refl, ap, ◌∙◌, subst, ⊎_elim, arith, length-set, get_or-set_other, get_or-set_same}
+use Rattle.std.proofs.Common.{◌≡◌, ℕ, ◌-◌, ◌<◌, ◌≤◌, length, sym, refl, ap, ◌∙◌, subst, arith, length-set, get_or-set_other, get_or-set_same}
 use Rattle.heap.proofs.Standing.{apart, numbered, one_entry}
 use Rattle.heap.specs.Sound.{Stands, entry_in, laid, place_in}
 use Rattle.heap.specs.declared.memory.Tree.{Tree}
 use Rattle.order.specs.declared.entries.Entry.{Entry}
 use Rattle.ready.proofs.Slots.{slot_at-some}
-use Rattle.ready.specs.Held.{Held, entry_at}
-use Rattle.std.proofs.lemmas.Bool.{cases_eq}
+use Rattle.ready.specs.Held.{Held}
 
 -- a tree cut off or grown to another length
-abbrev pub resized : Tree → ℕ → Tree
-resized tree len = record { entries = tree.entries; places = tree.places; len = len }
+abbrev pub resized : (tree : Tree) (len : ℕ) → len ≤ 64 → Tree
+resized tree len room = record { entries = tree.entries; places = tree.places; len = len; room = room }
 
 module _ (tree : Tree) (place : ℕ) (e : Entry) where
   -- an entry that is laid at a place stands there
@@ -52,7 +51,7 @@ module _ (tree : Tree) (held : Held) (h : ℕ) (x : Entry) (s : Stands (laid tre
 
   -- the hole lies in the memory
   hole_low : h < length tree.entries
-  hole_low = omega (arith, memory_long, s.room)
+  hole_low = omega (arith, memory_long, tree.room)
 
   -- the hole holds the moved entry
   pub in_hole : entry_in (laid tree h x) h ≡ x
@@ -78,81 +77,29 @@ module _ (tree : Tree) (held : Held) (h : ℕ) (x : Entry) (s : Stands (laid tre
         let mid = laid tree h y in
         let old = laid tree h x in
         let new = laid mid c x in
-        let en : length mid.entries ≡ length tree.entries = length-set tree.entries h y in
-        let pn : length mid.places ≡ length tree.places = length-set tree.places (y.number - 1) h in
         let isY : entry_in old c ≡ y = entry_kept tree h x c ne in
-        let isX : entry_in old h ≡ x = in_hole in
         record {
           len = refl;
-          memory = length-set mid.entries c x ∙ (en ∙ sym (length-set tree.entries h x));
-          index = length-set mid.places (x.number - 1) c ∙ (pn ∙ sym (length-set tree.places (x.number - 1) h));
-          here = entry_kept mid c x h (λ same. ne (sym same)) ∙ (entry_laid tree h y hole_low ∙ sym isY);
-          there = entry_laid mid c x (omega (arith, en, memory_long, s.room)) ∙ sym isX;
-          rest = λ place nh nc. entry_kept mid c x place nc ∙ (entry_kept tree h y place nh ∙ sym (entry_kept tree h x place nh));
-          here_noted = ap (λ e. place_in new e.number) isY ∙ (place_kept mid c x y.number pulled_number.0 moved_number.0 two_numbers
-              ∙ place_laid tree h y (omega (arith, pulled_number.0, pulled_number.1, index_long)));
-          there_noted = ap (λ e. place_in new e.number) isX ∙ place_laid mid c x (omega (arith, pn, moved_number.0, moved_number.1, index_long));
-          rest_noted = λ number low nx ny.
-              let apartX : number ≡ x.number → ⊥ = λ same. nx (same ∙ ap (λ e. e.number) (sym isX)) in
-              let apartY : number ≡ y.number → ⊥ = λ same. ny (same ∙ ap (λ e. e.number) (sym isY)) in
-              place_kept mid c x number low moved_number.0 apartX
-              ∙ (place_kept tree h y number low pulled_number.0 apartY ∙ sym (place_kept tree h x number low moved_number.0 apartX));
+          memory = grind (arith, length-set {A = Entry});
+          index = grind (arith, length-set {A = ℕ});
+          here = grind (arith, isY, entry_kept mid c x h, entry_laid tree h y hole_low);
+          there = grind (arith, in_hole, entry_laid mid c x, length-set tree.entries h y, memory_long);
+          rest = λ place nh nc. grind (arith, entry_kept mid c x place, entry_kept tree h y place, entry_kept tree h x place);
+          here_noted = grind (arith, isY, two_numbers, pulled_number, moved_number, place_kept mid c x y.number, place_laid tree h y, index_long);
+          there_noted = grind (arith, in_hole, moved_number, place_laid mid c x, length-set tree.places (y.number - 1) h, index_long);
+          rest_noted = λ number low nx ny. grind (arith, isY, in_hole, pulled_number, moved_number, place_kept mid c x number, place_kept tree h y number, place_kept tree h x number);
         }
 
 -- two trees, one made from the other by an exchange
 module _ (old new : Tree) (held : Held) (h c : ℕ) (ex : Exchanged old new h c) (s : Stands old held) (hn : h < old.len) (cn : c < old.len) where
-  -- what stands at a place is still held
-  kept_after : (place : ℕ) → place < old.len → entry_at held (entry_in new place).number ≡ Some (entry_in new place)
-  kept_after place lt =
-      let P : Entry → Type 0 = λ e. entry_at held e.number ≡ Some e in
-      ⊎_elim
-      (λ (is : place ≡ h). subst P (sym (ap (entry_in new) is ∙ ex.here)) (s.kept c cn))
-      (λ (nh : place ≡ h → ⊥). ⊎_elim
-      (λ (is : place ≡ c). subst P (sym (ap (entry_in new) is ∙ ex.there)) (s.kept h hn))
-      (λ (nc : place ≡ c → ⊥). subst P (sym (ex.rest place nh nc)) (s.kept place lt))
-      (cases_eq place c))
-      (cases_eq place h)
-
-  -- the index still notes the place
-  indexed_after : (place : ℕ) → place < old.len → place_in new (entry_in new place).number ≡ place
-  indexed_after place lt =
-      let P : Entry → Type 0 = λ e. place_in new e.number ≡ place in
-      ⊎_elim
-      (λ (is : place ≡ h). subst P (sym (ap (entry_in new) is ∙ ex.here)) (ex.here_noted ∙ sym is))
-      (λ (nh : place ≡ h → ⊥). ⊎_elim
-      (λ (is : place ≡ c). subst P (sym (ap (entry_in new) is ∙ ex.there)) (ex.there_noted ∙ sym is))
-      (λ (nc : place ≡ c → ⊥). subst P (sym (ex.rest place nh nc))
-      (ex.rest_noted (entry_in old place).number (numbered old held s place lt).0 (apart old held s place h lt hn nh) (apart old held s place c lt cn nc) ∙ s.indexed place lt))
-      (cases_eq place c))
-      (cases_eq place h)
-
-  -- what is held still stands where the index notes
-  all_after : (e : Entry) → entry_at held e.number ≡ Some e → (place_in new e.number < old.len) × (entry_in new (place_in new e.number) ≡ e)
-  all_after e is =
-      let P : ℕ → Type 0 = λ place. (place < old.len) × (entry_in new place ≡ e) in
-      ⊎_elim
-      (λ (same : e.number ≡ (entry_in old h).number). subst P (sym (ap (place_in new) same ∙ ex.there_noted)) (cn, ex.there ∙ one_entry old held s e h hn is same))
-      (λ (nx : e.number ≡ (entry_in old h).number → ⊥). ⊎_elim
-      (λ (same : e.number ≡ (entry_in old c).number). subst P (sym (ap (place_in new) same ∙ ex.here_noted)) (hn, ex.here ∙ one_entry old held s e c cn is same))
-      (λ (ny : e.number ≡ (entry_in old c).number → ⊥).
-      let low : 0 < e.number = (slot_at-some held e.number e is).0 in
-      let q = place_in old e.number in
-      let it : entry_in old q ≡ e = (s.all e is).1 in
-      let nh : q ≡ h → ⊥ = λ same. nx (ap (λ a. a.number) (sym it) ∙ ap (λ p. (entry_in old p).number) same) in
-      let nc : q ≡ c → ⊥ = λ same. ny (ap (λ a. a.number) (sym it) ∙ ap (λ p. (entry_in old p).number) same) in
-      subst P (sym (ex.rest_noted e.number low nx ny)) ((s.all e is).0, ex.rest q nh nc ∙ it))
-      (cases_eq e.number (entry_in old c).number))
-      (cases_eq e.number (entry_in old h).number)
-
   -- an exchange keeps what the tree holds
   pub stands_exchanged : Stands new held
   stands_exchanged = record {
     slotted = s.slotted;
     memory = ex.memory ∙ s.memory;
     index = ex.index ∙ s.index;
-    room = omega (arith, ex.len, s.room);
     count = ex.len ∙ s.count;
-    kept = λ place lt. kept_after place (omega (arith, ex.len));
-    indexed = λ place lt. indexed_after place (omega (arith, ex.len));
-    all = λ e is. let after = all_after e is in (omega (arith, ex.len, after.0), after.1);
+    kept = λ place lt. grind (arith, ex.len, ex.here, ex.there, ex.rest place, s.kept place, s.kept h, s.kept c);
+    indexed = λ place lt. grind (arith, ex.len, ex.here, ex.there, ex.here_noted, ex.there_noted, ex.rest place, ex.rest_noted (entry_in old place).number, s.indexed place, numbered old held s place, apart old held s place h, apart old held s place c);
+    all = λ e is. grind (arith, ex.len, ex.here, ex.there, ex.here_noted, ex.there_noted, ex.rest (place_in old e.number), ex.rest_noted e.number, s.all e, slot_at-some held e.number e, one_entry old held s e h, one_entry old held s e c);
   }

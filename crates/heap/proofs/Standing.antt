@@ -1,25 +1,16 @@
 -- What the tree's memory means: the entries that stand in it are the ones that it holds.
-use Rattle.std.proofs.Common.{◌≡◌, ℕ, ◌+◌, ◌-◌, ◌<◌, ◌≤◌, Bool, true, false, cond, eqb, ltb, length, get_or, set, is_some, Some, None, count_by, Option, sym, refl, ap, ◌∙◌, subst, ⊎_elim, arith}
-use Rattle.heap.specs.Sound.{Stands, entry_in, found, held_in, place_in, slot_in}
+use Rattle.std.proofs.Common.{◌≡◌, ℕ, ◌+◌, ◌-◌, ◌<◌, ◌≤◌, true, cond, length, get_or, set, is_some, Some, None, count_by, Option, sym, refl, ap, ◌∙◌, subst, arith}
+use Rattle.heap.specs.Sound.{Stands, entry_in, held_in, place_in, slot_in}
 use Rattle.heap.specs.declared.memory.Tree.{Tree}
 use Rattle.order.specs.Orders.{Apart, in_range}
 use Rattle.order.specs.declared.entries.Entry.{Entry}
 use Rattle.ready.proofs.First.{none_holds}
-use Rattle.ready.proofs.Slots.{entry_slot, entry_at-in, entry_at-number, slot_at-some, number_high, slot_back, slotted_none}
-use Rattle.ready.specs.Held.{Held, Slotted, entry_at, holds, none}
+use Rattle.ready.proofs.Slots.{entry_slot, entry_at-number, slot_at-some, number_high, range_from, slot_back, slotted_none}
+use Rattle.ready.specs.Held.{Held, Slotted, entry_at, none}
 use Rattle.std.proofs.lemmas.List.FromFn.{get_or-map-range_with_len, length-map-range_with_len}
 use Rattle.std.proofs.lemmas.List.{ext_get_or}
 use Rattle.std.proofs.lemmas.List.Sums.{sum_by-set}
-use Rattle.std.proofs.lemmas.Bool.{and_from, and_parts, cases_Bool, cond-false, cond-true, eq-eqb, eqb-true, lt-ltb, ltb-true}
-
--- an option made by a test holds something exactly where the test passes
-pub some_found : {A : Type 0} (b : Bool) (x : A) → is_some (cond b (Some x) None) ≡ b
-some_found true x = refl
-some_found false x = refl
-
--- something is not nothing
-pub some_none : {A : Type 0} (x : A) → ◌≡◌ {A = Option A} (Some x) None → ⊥
-some_none x is = let z : ◌≡◌ {A = ℕ} 0 1 = cc in omega arith
+use Rattle.std.proofs.lemmas.Bool.Decides.{nat_tests}
 
 -- a tree, and what stands in it
 module _ (tree : Tree) (held : Held) (s : Stands tree held) where
@@ -38,22 +29,9 @@ module _ (tree : Tree) (held : Held) (s : Stands tree held) where
   -- what is found for a number is what is held under it
   slot_as : (number : ℕ) (o : Option Entry) → entry_at held number ≡ o → slot_in tree number ≡ o
   slot_as number (Some e) is =
-      let n : e.number ≡ number = entry_at-number held number e s.slotted is in
-      let there = s.all e (ap (entry_at held) n ∙ is) in
-      let low : place_in tree number < tree.len = subst (λ m. place_in tree m < tree.len) n there.0 in
-      let it : entry_in tree (place_in tree number) ≡ e = subst (λ m. entry_in tree (place_in tree m) ≡ e) n there.1 in
-      let yes' : found tree number ≡ true = and_from (ltb (place_in tree number) tree.len) (eqb (entry_in tree (place_in tree number)).number number)
-      (lt-ltb (place_in tree number) tree.len low) (eq-eqb (entry_in tree (place_in tree number)).number number (ap (λ x. x.number) it ∙ n)) in
-      cond-true (found tree number) (Some (entry_in tree (place_in tree number))) None yes' ∙ ap Some it
-  slot_as number None is =
-      ⊎_elim
-      (λ (hit : found tree number ≡ true).
-      let parts = and_parts (ltb (place_in tree number) tree.len) (eqb (entry_in tree (place_in tree number)).number number) hit in
-      let n : (entry_in tree (place_in tree number)).number ≡ number = eqb-true (entry_in tree (place_in tree number)).number number parts.1 in
-      let it : entry_at held number ≡ Some (entry_in tree (place_in tree number)) = ap (entry_at held) (sym n) ∙ s.kept (place_in tree number) (ltb-true (place_in tree number) tree.len parts.0) in
-      absurd (some_none (entry_in tree (place_in tree number)) (sym it ∙ is)))
-      (λ miss. cond-false (found tree number) (Some (entry_in tree (place_in tree number))) None miss)
-      (cases_Bool (found tree number))
+      let n = entry_at-number held number e s.slotted is in
+      grind (arith, nat_tests, s.all e)
+  slot_as number None is = grind (arith, nat_tests, s.kept (place_in tree number))
 
   -- the memory means what stands in it
   pub held_is : held_in tree ≡ held
@@ -64,11 +42,7 @@ module _ (tree : Tree) (held : Held) (s : Stands tree held) where
       let back : k + 1 - 1 ≡ k = omega arith in
       get_or-map-range_with_len (slot_in tree) 1 64 k (k + 1) None in' (omega arith)
       ∙ (slot_as (k + 1) (entry_at held (k + 1)) refl
-      ∙ (entry_at-in held (k + 1) (omega arith) (omega arith) ∙ ap (λ n. get_or held n None) back)))
-
-  -- a number is found exactly where it is held
-  pub found_holds : (number : ℕ) → found tree number ≡ holds held number
-  found_holds number = sym (some_found (found tree number) (entry_in tree (place_in tree number))) ∙ ap is_some (slot_as number (entry_at held number) refl)
+      ∙ (entry_slot held (k + 1) (range_from (k + 1) (omega arith, omega arith)) ∙ ap (λ n. get_or held n None) back)))
 
 -- a write to a slot changes the count by what it writes and what it replaces
 pub count_set : (held : Held) (number : ℕ) (old new : Option Entry) → Slotted held → in_range number ≡ true → entry_at held number ≡ old
@@ -84,7 +58,6 @@ stands_none tree memory index empty = record {
   slotted = slotted_none;
   memory = memory;
   index = index;
-  room = omega arith;
   count = empty;
   kept = λ place lt. absurd (omega arith);
   indexed = λ place lt. absurd (omega arith);

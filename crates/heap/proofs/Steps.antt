@@ -1,20 +1,43 @@
 -- The steps of a sift: what each test says, and that a turn or the end keeps the tree's order.
-use Rattle.std.proofs.Common.{◌≡◌, ℕ, ◌+◌, ◌<◌, Bool, true, false, ◌&&◌, ltb, Some, None, sym, refl, ap, ◌∙◌, subst, ⊎_elim, arith}
+use Rattle.std.proofs.Common.{◌≡◌, ℕ, ◌⊎◌, inl, inr, ◌+◌, ◌<◌, Bool, true, false, ◌&&◌, ltb, cond, is_some, Some, None, Option, ◌-◌, sym, refl, ap, ◌∙◌, subst, ⊎_elim, arith}
 use Rattle.heap.proofs.Paths.{by, linked, risen, sound, sunk, turned}
 use Rattle.heap.proofs.Moves.{Exchanged, entry_kept, in_hole, moved_number, pulled, pulled_number}
-use Rattle.heap.proofs.Standing.{held_is, some_none}
-use Rattle.heap.specs.Sifts.{AfterParent, BeforeChildren, Holed, first_child, rises, sinks_to}
+use Rattle.heap.proofs.Standing.{apart, held_is}
+use Rattle.heap.specs.Sifts.{AfterParent, BeforeChildren, Holed, first_child, next_place, rises, sinks_to}
 use Rattle.heap.specs.Sound.{Sound, entry_in, held_in, laid, left_child, parent}
 use Rattle.heap.specs.declared.memory.Tree.{Tree}
 use Rattle.order.specs.Orders.{Lawful, in_range}
 use Rattle.order.specs.declared.entries.Entry.{Entry}
 use Rattle.ready.proofs.Slots.{range_from}
 use Rattle.ready.specs.Held.{Held}
-use Rattle.std.proofs.lemmas.Bool.{and_cases, and_parts, cases_Bool, cases_eq, cond-false, cond-true, ltb-false, ltb-true}
+use Rattle.std.proofs.lemmas.Bool.Decides.{nat_tests}
+use Rattle.std.proofs.lemmas.Option.{none-some}
+use Rattle.std.proofs.lemmas.Bool.{cases_Bool, cases_eq, false_from_ne_true, lt-ltb, true≢false}
 
--- an entry that rises is not at the root
-pub rises_low : (before : Entry → Entry → Bool) (tree : Tree) (h : ℕ) (x : Entry) → true ≡ rises before tree h x → 0 < h
-rises_low before tree h x is = ltb-true 0 h (and_parts (ltb 0 h) (before x (entry_in tree (parent h))) (sym is)).0
+-- how many turns a sift may still take at a place: it goes up, or down, or has no place to go to
+abbrev pub turns : Bool → Option ℕ → ℕ → ℕ → ℕ
+turns up down h len = cond up (h + 1) (cond (is_some down) (len - h) 0)
+
+abbrev pub turns_left : (Entry → Entry → Bool) → Tree → ℕ → Entry → ℕ
+turns_left before tree h x = turns (rises before tree h x) (sinks_to before tree h x) h tree.len
+
+-- what went up does not go down any more, and the other way round
+fewer_up : (up up' : Bool) (down down' : Option ℕ) (h c len len' : ℕ) → up ≡ true → down' ≡ None → c < h → turns up' down' c len' < turns up down h len
+fewer_up up up' down down' h c len len' yes' no' lt = grind arith
+
+fewer_down : (up up' : Bool) (down down' : Option ℕ) (h c len len' : ℕ) → up ≡ false → down ≡ Some c → up' ≡ false → h < c → c < len → len' ≡ len → turns up' down' c len' < turns up down h len
+fewer_down up up' down down' h c len len' no' yes' out lt within same = grind arith
+
+-- what is never something is nothing
+none_from : {A : Type 0} (o : Option A) → ((a : A) → o ≡ Some a → ⊥) → o ≡ None
+none_from None never = refl
+none_from (Some a) never = absurd (never a refl)
+
+-- the right child is picked where there is one and it comes first
+picked : (there ahead : Bool) (l r : ℕ) → ((cond (there && ahead) r l ≡ r) × (ahead ≡ true)) ⊎ ((cond (there && ahead) r l ≡ l) × (there ≡ true → ahead ≡ false))
+picked true true l r = inl (refl, refl)
+picked true false l r = inr (refl, λ _. refl)
+picked false ahead l r = inr (refl, λ no'. absurd (true≢false (sym no')))
 
 -- a child of the hole that comes before its other children
 record Best (before : Entry → Entry → Bool) (tree : Tree) (h c : ℕ) : Type 0 where
@@ -25,10 +48,6 @@ record Best (before : Entry → Entry → Bool) (tree : Tree) (h c : ℕ) : Type
 
 -- a tree in memory, and the same with the moved entry x in the hole h
 module _ (before : Entry → Entry → Bool) (laws : Lawful before) (tree : Tree) (held : Held) (h : ℕ) (x : Entry) (o : Holed before held (laid tree h x) h) where
-  -- the hole lies in the memory
-  pub hole_below : h < 64
-  hole_below = omega (arith, o.within, o.stands.room)
-
   -- the moved entry has a task number
   pub moved_range : in_range x.number ≡ true
   moved_range = range_from x.number (moved_number tree held h x o.stands o.within)
@@ -46,18 +65,13 @@ module _ (before : Entry → Entry → Bool) (laws : Lawful before) (tree : Tree
 
   -- an entry that rises has an entry above it, which comes after it
   rises_yes : true ≡ rises before tree h x → (0 < h) × (before (entry_in (laid tree h x) h) (entry_in (laid tree h x) (parent h)) ≡ true)
-  rises_yes is =
-      let parts = and_parts (ltb 0 h) (before x (entry_in tree (parent h))) (sym is) in
-      let low : 0 < h = ltb-true 0 h parts.0 in
-      (low, by before hole_is (rest_is (parent h) (λ e. omega arith)) parts.1)
+  rises_yes is = grind (arith, nat_tests, hole_is, rest_is (parent h))
 
   -- an entry that does not rise comes after the one above it
   pub rests_above : false ≡ rises before tree h x → AfterParent before (laid tree h x) h
-  rests_above is low = ⊎_elim
-      (λ (out : ltb 0 h ≡ false). absurd (omega (arith, ltb-false 0 h out)))
-      (λ (late : before x (entry_in tree (parent h)) ≡ false).
-      turned before laws (laid tree h x) held o.stands h (parent h) o.within (omega (arith, o.within)) (λ e. omega arith) (by before hole_is (rest_is (parent h) (λ e. omega arith)) late))
-      (and_cases (ltb 0 h) (before x (entry_in tree (parent h))) (sym is))
+  rests_above is low =
+      let up : before (entry_in (laid tree h x) h) (entry_in (laid tree h x) (parent h)) ≡ false = grind (arith, nat_tests, hole_is, rest_is (parent h)) in
+      turned before laws (laid tree h x) held o.stands h (parent h) o.within (omega (arith, o.within)) (λ e. omega arith) up
 
   -- an entry that rises comes before all below the hole
   pub leads_below : true ≡ rises before tree h x → BeforeChildren before (laid tree h x) h
@@ -71,99 +85,114 @@ module _ (before : Entry → Entry → Bool) (laws : Lawful before) (tree : Tree
   best_child in' =
       let l = left_child h in
       let r = left_child h + 1 in
-      let pick = ltb r tree.len && before (entry_in tree r) (entry_in tree l) in
-      ⊎_elim
-      (λ (is : pick ≡ true).
-      let parts = and_parts (ltb r tree.len) (before (entry_in tree r) (entry_in tree l)) is in
-      let fact : before (entry_in (laid tree h x) r) (entry_in (laid tree h x) l) ≡ true = by before (rest_is r (λ e. omega arith)) (rest_is l (λ e. omega arith)) parts.1 in
-      subst (Best before (laid tree h x) h) (sym (cond-true pick r l is)) (record {
-        low = omega arith;
-        within = ltb-true r tree.len parts.0;
-        child = omega arith;
-        first = λ k lk lt child ne. let isL : k ≡ l = omega arith in by before refl (ap (entry_in (laid tree h x)) isL) fact;
-      }))
-      (λ (is : pick ≡ false). subst (Best before (laid tree h x) h) (sym (cond-false pick r l is)) (record {
-        low = omega arith;
-        within = in';
-        child = omega arith;
-        first = λ k lk lt child ne.
-            let isR : k ≡ r = omega arith in
-            ⊎_elim
-            (λ (out : ltb r tree.len ≡ false). absurd (omega (arith, ltb-false r tree.len out)))
-            (λ (late : before (entry_in tree r) (entry_in tree l) ≡ false). by before refl (ap (entry_in (laid tree h x)) isR)
-            (turned before laws (laid tree h x) held o.stands r l (omega arith) in' (λ e. omega arith) (by before (rest_is r (λ e. omega arith)) (rest_is l (λ e. omega arith)) late)))
-            (and_cases (ltb r tree.len) (before (entry_in tree r) (entry_in tree l)) is);
-      }))
-      (cases_Bool pick)
+      let left : entry_in (laid tree h x) l ≡ entry_in tree l = rest_is l (λ e. omega arith) in
+      let right : entry_in (laid tree h x) r ≡ entry_in tree r = rest_is r (λ e. omega arith) in
+      record {
+        low = grind (arith, nat_tests);
+        within = grind (arith, nat_tests);
+        child = grind (arith, nat_tests);
+        first = λ k lk lt child ne. ⊎_elim
+            (λ (picks : (first_child before tree h ≡ r) × (before (entry_in tree r) (entry_in tree l) ≡ true)).
+            let isL : k ≡ l = omega (arith, picks.0) in
+            by before (ap (entry_in (laid tree h x)) picks.0 ∙ right) (ap (entry_in (laid tree h x)) isL ∙ left) picks.1)
+            (λ (picks : (first_child before tree h ≡ l) × (ltb r tree.len ≡ true → before (entry_in tree r) (entry_in tree l) ≡ false)).
+            let isR : k ≡ r = omega (arith, picks.0) in
+            let late = by before right left (picks.1 (lt-ltb r tree.len (omega arith))) in
+            by before (ap (entry_in (laid tree h x)) picks.0) (ap (entry_in (laid tree h x)) isR) (turned before laws (laid tree h x) held o.stands r l (omega arith) in' (λ e. omega arith) late))
+            (picked (ltb r tree.len) (before (entry_in tree r) (entry_in tree l)) l r);
+      }
 
   -- an entry that sinks has a best child, which comes before it
   sinks_yes : (c : ℕ) → Some c ≡ sinks_to before tree h x → Best before (laid tree h x) h c × (before (entry_in (laid tree h x) c) (entry_in (laid tree h x) h) ≡ true)
   sinks_yes c is =
-      let fc = first_child before tree h in
-      let test = ltb (left_child h) tree.len && before (entry_in tree fc) x in
-      ⊎_elim
-      (λ (hit : test ≡ true).
-      let parts = and_parts (ltb (left_child h) tree.len) (before (entry_in tree fc) x) hit in
-      let both : Some c ≡ Some fc = is ∙ cond-true test (Some fc) None hit in
-      let same : fc ≡ c = cc in
-      let best = best_child (ltb-true (left_child h) tree.len parts.0) in
-      subst (λ n. Best before (laid tree h x) h n × (before (entry_in (laid tree h x) n) (entry_in (laid tree h x) h) ≡ true)) same
-      (best, by before (rest_is fc (λ e. omega (arith, best.low, best.child))) hole_is parts.1))
-      (λ (miss : test ≡ false). absurd (some_none c (is ∙ cond-false test (Some fc) None miss)))
-      (cases_Bool test)
+      let low : left_child h < tree.len = grind (arith, nat_tests) in
+      let same : c ≡ first_child before tree h = grind (arith, nat_tests) in
+      let first : before (entry_in tree (first_child before tree h)) x ≡ true = grind (arith, nat_tests) in
+      let best = best_child low in
+      subst (λ n. Best before (laid tree h x) h n × (before (entry_in (laid tree h x) n) (entry_in (laid tree h x) h) ≡ true)) (sym same)
+      (best, by before (rest_is (first_child before tree h) (λ e. omega (arith, best.low, best.child))) hole_is first)
 
   -- an entry that does not sink comes before all below the hole
   rests_below : None ≡ sinks_to before tree h x → BeforeChildren before (laid tree h x) h
   rests_below is k lk lt child =
       let fc = first_child before tree h in
-      let test = ltb (left_child h) tree.len && before (entry_in tree fc) x in
       let best = best_child (omega arith) in
       let away : fc ≡ h → ⊥ = λ e. omega (arith, best.low, best.child) in
-      ⊎_elim
-      (λ (hit : test ≡ true). absurd (some_none fc (sym (is ∙ cond-true test (Some fc) None hit))))
-      (λ (miss : test ≡ false). ⊎_elim
-      (λ (out : ltb (left_child h) tree.len ≡ false). absurd (omega (arith, ltb-false (left_child h) tree.len out)))
-      (λ (late : before (entry_in tree fc) x ≡ false).
-      let over : before (entry_in (laid tree h x) h) (entry_in (laid tree h x) fc) ≡ true =
-      turned before laws (laid tree h x) held o.stands fc h best.within o.within away (by before (rest_is fc away) hole_is late) in
+      let late : before (entry_in tree fc) x ≡ false = grind (arith, nat_tests) in
+      let over = turned before laws (laid tree h x) held o.stands fc h best.within o.within away (by before (rest_is fc away) hole_is late) in
       ⊎_elim
       (λ (same : k ≡ fc). by before refl (ap (entry_in (laid tree h x)) same) over)
       (λ (ne : k ≡ fc → ⊥). linked before laws (laid tree h x) held o.stands h fc k o.within best.within lt (λ e. away (sym e)) (λ e. ne (sym e)) (λ e. omega arith) over (best.first k lk lt child ne))
-      (cases_eq k fc))
-      (and_cases (ltb (left_child h) tree.len) (before (entry_in tree fc) x) miss))
-      (cases_Bool test)
+      (cases_eq k fc)
 
-  -- the tree after an entry was pulled over the hole
-  module _ (c : ℕ) (cn : c < tree.len) (ne : c ≡ h → ⊥) (y : Entry) (is : y ≡ entry_in tree c) (new : Tree) (wrote : new ≡ laid tree h y) where
-    -- the entry and the moved one are exchanged
-    exchanged : Exchanged (laid tree h x) (laid new c x) h c
-    exchanged = subst (λ t. Exchanged (laid tree h x) (laid t c x) h c) (sym (wrote ∙ ap (laid tree h) is)) (pulled tree held h x o.stands o.within c cn ne)
+  -- an entry that comes before all below the hole does not sink
+  stays_below : BeforeChildren before (laid tree h x) h → sinks_to before tree h x ≡ None
+  stays_below below = none_from (sinks_to before tree h x) (λ c is.
+      let told = sinks_yes c (sym is) in
+      let up : before (entry_in (laid tree h x) h) (entry_in (laid tree h x) c) ≡ true = below c told.0.low told.0.within told.0.child in
+      let one = laws.one (entry_in (laid tree h x) h) (entry_in (laid tree h x) c) (apart (laid tree h x) held o.stands h c o.within told.0.within (λ e. omega (arith, told.0.low, told.0.child))) in
+      let down = told.1 in absurd cc)
 
-    -- a turn of `sift_up` moves the gap up
-    pub rises_again : true ≡ rises before tree h x → c ≡ parent h → BeforeChildren before (laid tree h x) h → Holed before held (laid new c x) c × BeforeChildren before (laid new c x) c
-    rises_again test up below =
-        let told = rises_yes test in
-        risen before laws (laid tree h x) (laid new c x) held h c exchanged o cn told.0 up
-        (ap (λ n. before (entry_in (laid tree h x) h) (entry_in (laid tree h x) n)) up ∙ told.1) below
+  -- an entry that comes after the one above the hole does not rise
+  stays_above : AfterParent before (laid tree h x) h → rises before tree h x ≡ false
+  stays_above above = false_from_ne_true (rises before tree h x) (λ is.
+      let told = rises_yes (sym is) in
+      let down = above told.0 in
+      let one = laws.one (entry_in (laid tree h x) (parent h)) (entry_in (laid tree h x) h) (apart (laid tree h x) held o.stands (parent h) h (omega (arith, o.within)) o.within (λ e. omega (arith, told.0))) in
+      let up = told.1 in absurd cc)
 
-    -- a turn of `sift_down` moves the gap down
-    pub sinks_again : Some c ≡ sinks_to before tree h x → Holed before held (laid new c x) c × AfterParent before (laid new c x) c
-    sinks_again test =
-        let told = sinks_yes c test in
-        sunk before laws (laid tree h x) (laid new c x) held h c exchanged o cn told.0.low told.0.child told.1 told.0.first
-
-  -- the child to sink to is another place of the tree
-  pub sinks_within : (c : ℕ) → Some c ≡ sinks_to before tree h x → (c < tree.len) × (c ≡ h → ⊥) × (h < c)
-  sinks_within c test = let best = (sinks_yes c test).0 in (best.within, λ e. omega (arith, best.low, best.child), omega (arith, best.low, best.child))
+  -- the next place is the one above or the first child
+  next_is : (o : Option ℕ) → o ≡ next_place before tree h x → ((rises before tree h x ≡ true) × (o ≡ Some (parent h))) ⊎ ((rises before tree h x ≡ false) × (o ≡ sinks_to before tree h x))
+  next_is o is = grind (arith, cases_Bool (rises before tree h x))
 
   -- a tree is in order once the moved entry is written where it fits
-  rests : (new : Tree) → new ≡ laid tree h x → BeforeChildren before (laid tree h x) h → AfterParent before (laid tree h x) h → (held_in new ≡ held) × Sound before new
-  rests new wrote below above = subst (λ t. (held_in t ≡ held) × Sound before t) (sym wrote) (held_is (laid tree h x) held o.stands, sound before laws (laid tree h x) held h o below above)
+  pub ends : (new : Tree) → new ≡ laid tree h x → None ≡ next_place before tree h x → (held_in new ≡ held) × Sound before new
+  ends new wrote is = ⊎_elim
+      (λ (up : (rises before tree h x ≡ true) × (◌≡◌ {A = Option ℕ} None (Some (parent h)))). absurd (none-some (parent h) up.1))
+      (λ (down : (rises before tree h x ≡ false) × (None ≡ sinks_to before tree h x)).
+      subst (λ t. (held_in t ≡ held) × Sound before t) (sym wrote) (held_is (laid tree h x) held o.stands, sound before laws (laid tree h x) held h o (rests_below down.1) (rests_above (sym down.0))))
+      (next_is None is)
 
-  -- so it is where the entry does not rise
-  pub rises_ends : (new : Tree) → new ≡ laid tree h x → BeforeChildren before (laid tree h x) h → false ≡ rises before tree h x → (held_in new ≡ held) × Sound before new
-  rises_ends new wrote below test = rests new wrote below (rests_above test)
+-- the gap moves on to a place, and fewer turns are left
+pub record Turned (before : Entry → Entry → Bool) (held : Held) (tree : Tree) (h : ℕ) (new : Tree) (c : ℕ) (x : Entry) : Type 0 where
+  pub again : Holed before held (laid new c x) c
+  pub fewer : turns_left before new c x < turns_left before tree h x
 
-  -- and where it does not sink
-  pub sinks_ends : (new : Tree) → new ≡ laid tree h x → AfterParent before (laid tree h x) h → None ≡ sinks_to before tree h x → (held_in new ≡ held) × Sound before new
-  sinks_ends new wrote above test = rests new wrote (rests_below test) above
+module _ (before : Entry → Entry → Bool) (laws : Lawful before) (tree : Tree) (held : Held) (h : ℕ) (x : Entry) (o : Holed before held (laid tree h x) h) (c : ℕ) (is : Some c ≡ next_place before tree h x) where
+  -- the next place is another place of the tree
+  next_within : (c < tree.len) × (c ≡ h → ⊥)
+  next_within = ⊎_elim
+      (λ (up : (rises before tree h x ≡ true) × (Some c ≡ Some (parent h))).
+      let low = (rises_yes before laws tree held h x o (sym up.0)).0 in
+      let same : c ≡ parent h = let told = up.1 in cc in (omega (arith, o.within), λ e. omega arith))
+      (λ (down : (rises before tree h x ≡ false) × (Some c ≡ sinks_to before tree h x)).
+      let best = (sinks_yes before laws tree held h x o c down.1).0 in (best.within, λ e. omega (arith, best.low, best.child)))
+      (next_is before laws tree held h x o (Some c) is)
+
+  -- so what stands there has a task number
+  pub next_range : (y : Entry) → y ≡ entry_in tree c → in_range y.number ≡ true
+  next_range y its = pulled_range before laws tree held h x o c next_within.0 next_within.1 y its
+
+  -- a turn exchanges it with the moved entry
+  pub turned_over : (y : Entry) → y ≡ entry_in tree c → (new : Tree) → new ≡ laid tree h y → Turned before held tree h new c x
+  turned_over y its new wrote =
+      let ex : Exchanged (laid tree h x) (laid new c x) h c =
+      subst (λ t. Exchanged (laid tree h x) (laid t c x) h c) (sym (wrote ∙ ap (laid tree h) its)) (pulled tree held h x o.stands o.within c next_within.0 next_within.1) in
+      let len : new.len ≡ tree.len = ap (λ t. t.len) wrote in
+      ⊎_elim
+      (λ (up : (rises before tree h x ≡ true) × (Some c ≡ Some (parent h))).
+      let told = rises_yes before laws tree held h x o (sym up.0) in
+      let same : c ≡ parent h = let parts = up.1 in cc in
+      let moved = risen before laws (laid tree h x) (laid new c x) held h c ex o next_within.0 told.0 same (subst (λ n. before (entry_in (laid tree h x) h) (entry_in (laid tree h x) n) ≡ true) (sym same) told.1) (leads_below before laws tree held h x o (sym up.0)) in
+      record {
+        again = moved.0;
+        fewer = fewer_up (rises before tree h x) (rises before new c x) (sinks_to before tree h x) (sinks_to before new c x) h c tree.len new.len up.0 (stays_below before laws new held c x moved.0 moved.1) (omega (arith, told.0));
+      })
+      (λ (down : (rises before tree h x ≡ false) × (Some c ≡ sinks_to before tree h x)).
+      let told = sinks_yes before laws tree held h x o c down.1 in
+      let moved = sunk before laws (laid tree h x) (laid new c x) held h c ex o next_within.0 told.0.low told.0.child told.1 told.0.first in
+      record {
+        again = moved.0;
+        fewer = fewer_down (rises before tree h x) (rises before new c x) (sinks_to before tree h x) (sinks_to before new c x) h c tree.len new.len down.0 (sym down.1) (stays_above before laws new held c x moved.0 moved.1) (omega (arith, told.0.low, told.0.child)) next_within.0 len;
+      })
+      (next_is before laws tree held h x o (Some c) is)

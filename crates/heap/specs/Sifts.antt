@@ -26,11 +26,23 @@ AfterParent before tree hole = 0 < hole → before (entry_in tree (parent hole))
 abbrev pub rises : (Entry → Entry → Bool) → Tree → ℕ → Entry → Bool
 rises before tree hole e = nat_lt 0 hole && before e (entry_in tree (parent hole))
 
+-- the place above the hole, where the entry comes before what stands there
+abbrev pub rises_to : (Entry → Entry → Bool) → Tree → ℕ → Entry → Option ℕ
+rises_to before tree hole e = cond (rises before tree hole e) (Some (parent hole)) None
+
 -- the child that comes first, of a place that has one
 abbrev pub first_child : (Entry → Entry → Bool) → Tree → ℕ → ℕ
 first_child before tree hole =
     cond (nat_lt (left_child hole + 1) tree.len && before (entry_in tree (left_child hole + 1)) (entry_in tree (left_child hole))) (left_child hole + 1) (left_child hole)
 
+-- the same of any place
+abbrev pub child_of : (Entry → Entry → Bool) → Tree → ℕ → Option ℕ
+child_of before tree hole = cond (nat_lt (left_child hole) tree.len) (Some (first_child before tree hole)) None
+
 -- the child that comes first, where it comes before the entry
 abbrev pub sinks_to : (Entry → Entry → Bool) → Tree → ℕ → Entry → Option ℕ
 sinks_to before tree hole e = cond (nat_lt (left_child hole) tree.len && before (entry_in tree (first_child before tree hole)) e) (Some (first_child before tree hole)) None
+
+-- the place that the hole is to move to, unless the entry may stand in it
+abbrev pub next_place : (Entry → Entry → Bool) → Tree → ℕ → Entry → Option ℕ
+next_place before tree hole e = cond (rises before tree hole e) (Some (parent hole)) (sinks_to before tree hole e)

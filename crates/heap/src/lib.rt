@@ -15,12 +15,12 @@ use memory::Tree;
 use order::entries::{Entry, is_task_number};
 use order::ties::TieOrder;
 use ready::ReadyList;
-use sifts::{settle, sift_up};
 
 // The tree holds the entries; the order says who of two stands above.
 #[derive(Drop)]
 pub struct Heap<O> {
     tree: Tree,
+    // only its type is read; a `PhantomData` would have `new` drop the order, which need not be `Drop`
     order: O,
 }
 
@@ -51,38 +51,22 @@ impl<O: TieOrder> ReadyList for Heap<O> {
     }
 
     fn put(&mut self, e: Entry) -> bool {
-        if !is_task_number(e.number) {
-            return false;
+        let free = is_task_number(e.number) && self.tree.place_of(e.number).is_none();
+        if free {
+            self.tree.push::<O>(e);
         }
-        if self.tree.place_of(e.number).is_some() {
-            return false;
-        }
-        let place = self.tree.len;
-        self.tree.len += 1;
-        sift_up::<O>(&mut self.tree, place, e);
-        true
+        free
     }
 
     fn take_out(&mut self, number: u32) -> bool {
-        if !is_task_number(number) {
-            return false;
-        }
         let Some(place) = self.tree.place_of(number) else {
             return false;
         };
-        self.tree.len -= 1;
-        let last = self.tree.entry(self.tree.len);
-        // the last entry fills the place, unless it is the one to go
-        if place < self.tree.len {
-            settle::<O>(&mut self.tree, place, last);
-        }
+        self.tree.remove::<O>(place);
         true
     }
 
     fn first(&self) -> Option<Entry> {
-        if self.tree.len == 0 {
-            return None;
-        }
-        Some(self.tree.entry(0))
+        self.tree.root()
     }
 }

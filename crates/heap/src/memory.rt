@@ -1,36 +1,24 @@
 // The memory of the heap: a binary tree laid out in an array, and an index of it by task number.
-ghost use Rattle.std.specs.Prelude.{◌≡◌, ◌<◌, ◌≤◌, true, length};
-ghost use Rattle.heap.specs.Sound.{entry_in, laid, left_child, parent as parent_of, where_in};
+ghost use Rattle.std.specs.Prelude.{◌≡◌, ◌<◌, ◌≤◌, true, length, is_some, IfSome};
 ghost use Rattle.order.specs.Orders.{in_range};
+ghost use Rattle.ready.specs.Held.{holds};
 
-use order::entries::Entry;
+use order::entries::{Entry, slot_of};
 
 // Place 0 is the root; the children of place p are the places 2p + 1 and 2p + 2. What stands at
 // places from `len` on, and what the index says of a number that is not held, has no meaning.
+// Two arrays, since one goes by place and the other by number; of fixed size, as no heap may be used.
 #[derive(Drop)]
 pub struct Tree {
     pub(crate) entries: [Entry; 64],
     pub(crate) places: [usize; 64],
     pub(crate) len: usize,
-}
-
-// The place above.
-pub fn parent(place: usize) -> usize
-    requires { 0 < place }
-    ensures { result ≡ parent_of place }
-{
-    (place - 1) / 2
-}
-
-// The left one of the two places below; the right one is next to it.
-pub fn left_child(place: usize) -> usize
-    requires { place < 64 }
-    ensures { result ≡ left_child place }
-{
-    2 * place + 1
+    ghost room: { len ≤ 64 },
 }
 
 impl Tree {
+    ghost use Rattle.heap.specs.Sound.{IsPlaceOf, Stands, entry_in, held_in, laid, root_of};
+
     // A tree without entries.
     pub fn new() -> Tree
         ensures entries { length result.entries ≡ 64 }
@@ -57,19 +45,22 @@ impl Tree {
         self.entries[place]
     }
 
+    // The entry at the root, if there is one.
+    pub fn root(&self) -> Option<Entry>
+        ensures { result ≡ root_of self.now }
+    {
+        (self.len > 0).then(|| self.entry(0))
+    }
+
     // The place of a number's entry, if the tree holds one. The index may note anything for a number
     // that is not held, so what it notes is looked at.
     pub fn place_of(&self, number: u32) -> Option<usize>
-        requires number { in_range number ≡ true }
-        requires room { self.now.len ≤ 64 }
-        ensures { result ≡ where_in self.now number }
+        requires { Stands self.now (held_in self.now) }
+        ensures found { is_some result ≡ holds (held_in self.now) number }
+        ensures place { IfSome result (IsPlaceOf self.now number) }
     {
-        let place = self.places[(number - 1) as usize];
-        if place < self.len && self.entry(place).number == number {
-            Some(place)
-        } else {
-            None
-        }
+        let place = self.places[slot_of(number)?];
+        (place < self.len && self.entry(place).number == number).then_some(place)
     }
 
     // Lays an entry at a place, and notes the place under the entry's number.
@@ -79,6 +70,6 @@ impl Tree {
         ensures { self.new ≡ laid self.old place e }
     {
         self.entries[place] = e;
-        self.places[(e.number - 1) as usize] = place;
+        self.places[slot_of(e.number).unwrap()] = place;
     }
 }

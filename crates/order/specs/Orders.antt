@@ -1,10 +1,14 @@
 -- What a tie order keeps, and the tie orders that are delivered, each as one test on two entries.
-use Rattle.std.specs.Prelude.{eqb, leb, ltb, Bool, true, cond, not, ◌&&◌, ◌≡◌, ℕ, ◌<◌}
+use Rattle.std.specs.Prelude.{eqb, leb, ltb, Bool, true, cond, not, ◌&&◌, ◌≡◌, ℕ, ◌-◌, ◌<◌, Some, None, Option}
 use Rattle.order.specs.declared.entries.Entry.{Entry}
 
 -- a task number is 1 to 64
 abbrev pub in_range : ℕ → Bool
 in_range number = ltb 0 number && leb number 64
+
+-- the place of a task number's slot; none of a number that is no task number
+abbrev pub slot_of : ℕ → Option ℕ
+slot_of number = cond (in_range number) (Some (number - 1)) None
 
 -- entries of different tasks
 abbrev pub Apart : Entry → Entry → Type 0

@@ -1,5 +1,5 @@
 ghost use Rattle.std.specs.Prelude.{◌≡◌};
-ghost use Rattle.order.specs.Orders.{in_range};
+ghost use Rattle.order.specs.Orders.{in_range, slot_of};
 
 // What a ready list holds of a task: enough to say who comes first.
 #[derive(Clone, Copy, PartialEq, Eq, Debug)]
@@ -13,5 +13,12 @@ pub struct Entry {
 pub fn is_task_number(number: u32) -> bool
     ensures { result ≡ in_range number }
 {
-    number > 0 && number <= 64
+    (1..=64).contains(&number)
+}
+
+// The place of a task number's slot among the 64; none of a number that is no task number.
+pub fn slot_of(number: u32) -> Option<usize>
+    ensures { result ≡ slot_of number }
+{
+    is_task_number(number).then(|| (number - 1) as usize)
 }

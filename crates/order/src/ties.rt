@@ -6,6 +6,7 @@ ghost use Rattle.order.specs.Orders.{Lawful, by_number, by_rate};
 ghost use Rattle.std.proofs.Common.{rules};
 
 use crate::entries::Entry;
+use std::cmp::Reverse;
 
 // An order on entries of different numbers.
 pub trait TieOrder {
@@ -20,7 +21,7 @@ pub trait TieOrder {
 }
 
 // Ties go to the lower number.
-#[derive(Clone, Copy)]
+#[derive(Clone, Copy, PartialEq, Eq, Debug, Default)]
 pub struct ByNumber;
 
 impl TieOrder for ByNumber {
@@ -29,16 +30,12 @@ impl TieOrder for ByNumber {
     ghost lawful = { Prim.search rules };
 
     fn comes_before(a: Entry, b: Entry) -> bool {
-        if a.deadline == b.deadline {
-            a.number < b.number
-        } else {
-            a.deadline < b.deadline
-        }
+        (a.deadline, a.number) < (b.deadline, b.number)
     }
 }
 
 // Ties go to the higher rate, and of equal rates to the lower number.
-#[derive(Clone, Copy)]
+#[derive(Clone, Copy, PartialEq, Eq, Debug, Default)]
 pub struct ByRate;
 
 impl TieOrder for ByRate {
@@ -47,12 +44,6 @@ impl TieOrder for ByRate {
     ghost lawful = { Prim.search rules };
 
     fn comes_before(a: Entry, b: Entry) -> bool {
-        if a.deadline != b.deadline {
-            a.deadline < b.deadline
-        } else if a.rate != b.rate {
-            a.rate > b.rate
-        } else {
-            a.number < b.number
-        }
+        (a.deadline, Reverse(a.rate), a.number) < (b.deadline, Reverse(b.rate), b.number)
     }
 }

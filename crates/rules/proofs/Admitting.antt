@@ -1,5 +1,5 @@
 -- A task that is admitted is sound, and leaves the rates within the processor.
-use Rattle.std.proofs.Common.{◌≡◌, ℕ, ◌+◌, ◌-◌, ◌*◌, ◌≤◌, Bool, true, false, Some, None, Ok, Option, refl, ap, arith}
+use Rattle.std.proofs.Common.{◌≡◌, ℕ, ◌+◌, ◌-◌, ◌*◌, ◌≤◌, Bool, true, false, Some, None, Ok, Option, ap, arith, rules}
 use Rattle.order.specs.Orders.{in_range}
 use Rattle.rules.specs.Admission.{admitted, why_not_admitted}
 use Rattle.rules.specs.Sound.{Sound}
@@ -20,35 +20,15 @@ pub record Admissible (taken : Bool) (rates : ℕ) (asked : Reservation) : Type 
   pub shared : rates + asked.rate ≤ 1000
 
 pub admissible : (taken : Bool) (rates : ℕ) (asked : Reservation) → why_not_admitted taken rates asked ≡ None → Admissible taken rates asked
-admissible taken rates asked is =
-    record {
-      range = grind (arith, nat_tests);
-      free = grind (arith, nat_tests);
-      rate_low = grind (arith, nat_tests);
-      rate_high = grind (arith, nat_tests);
-      period_low = grind (arith, nat_tests);
-      period_high = grind (arith, nat_tests);
-      worth = grind (arith, nat_tests);
-      shared = grind (arith, nat_tests);
-    }
+admissible taken rates asked is = grind (arith, nat_tests)
 
 pub admitted_sound : (T : ℕ) (taken : Bool) (rates : ℕ) (asked : Reservation) → Admissible taken rates asked → Sound T (admitted T asked)
 admitted_sound T taken rates asked a =
     let span : (T + asked.period) - T ≡ asked.period = omega arith in
     let product : asked.rate * ((T + asked.period) - T) ≡ asked.rate * asked.period = ap (λ n. asked.rate * n) span in
-    record {
-      rate_low = a.rate_low;
-      rate_high = a.rate_high;
-      period_low = a.period_low;
-      period_high = a.period_high;
-      worth = a.worth;
-      begun = omega arith;
-      coming = omega (arith, a.period_low);
-      spans = refl;
-      bounded = omega arith;
-    }
+    search rules
 
 -- an answer that is given is that of nothing speaking against it
 pub unless_ok : {A : Type 0} (why : Option Refusal) (a b : A) → unless why a ≡ Ok b → (why ≡ None) × (a ≡ b)
-unless_ok None a b is = (refl, cc)
-unless_ok (Some why) a b is = let z : ◌≡◌ {A = ℕ} 0 1 = cc in absurd (omega arith)
+unless_ok None a b is = (cc, cc)
+unless_ok (Some why) a b is = cc

@@ -1,16 +1,13 @@
 -- A change keeps a task sound, its number, and the rates within the processor.
-use Rattle.std.proofs.Common.{◌≡◌, ℕ, ◌+◌, ◌-◌, ◌*◌, ◌/◌, ◌<◌, ◌≤◌, min, Some, None, Ok, Option, sym, refl, ap, ◌∙◌, subst, add-mul, mul-add, arith}
-use Rattle.rules.proofs.Admitting.{unless_ok}
-use Rattle.rules.specs.Changes.{advanced_by, becomes, changed, deadline_at, lowered_by, moved_by, share, why_not_period, why_not_changed, why_not_rate, why_not_ready, why_not_wake, with_period, with_rate, woken}
+use Rattle.std.proofs.Common.{◌≡◌, ℕ, ◌+◌, ◌-◌, ◌*◌, ◌<◌, ◌≤◌, Some, None, Ok, Option, ap, add-mul, mul-add, arith, rules}
+use Rattle.rules.specs.Changes.{advanced_by, becomes, changed, deadline_at, lowered_by, moved_by, why_not_period, why_not_changed, why_not_rate, with_period, with_rate}
 use Rattle.rules.specs.Refusals.{unless}
 use Rattle.rules.specs.Sound.{Sound}
-use Rattle.rules.specs.Withdrawals.{goes_at_once, marked, why_not_withdrawn, withdrawn, withdrawn_slot}
+use Rattle.rules.specs.Withdrawals.{marked, withdrawn}
 use Rattle.rules.specs.declared.changes.Change.{Change}
 use Rattle.rules.specs.declared.changes.Change.TheVariants.{Finish as finish, Period as to_period, Rate as to_rate, Wait as wait, Wake as wake}
 use Rattle.rules.specs.declared.phases.Event.{Event}
-use Rattle.rules.specs.declared.phases.Event.TheVariants.{Finish, Wait, Wake}
 use Rattle.rules.specs.declared.tasks.Task.{Task}
-use Rattle.std.proofs.lemmas.Bool.{cond_both}
 use Rattle.std.proofs.lemmas.Bool.Decides.{nat_tests}
 
 pub record Kept (T rates : ℕ) (t u : Task) : Type 0 where
@@ -32,31 +29,15 @@ pub record RateFits (T rates : ℕ) (t : Task) (rate : ℕ) : Type 0 where
   pub enough : lowered_by T t rate ≤ t.left
 
 pub rate_fits : (T rates : ℕ) (t : Task) (rate : ℕ) → why_not_rate T rates t rate ≡ None → RateFits T rates t rate
-rate_fits T rates t rate is =
-    record { low = grind (arith, nat_tests); high = grind (arith, nat_tests); worth = grind (arith, nat_tests); shared = grind (arith, nat_tests); enough = grind (arith, nat_tests) }
+rate_fits T rates t rate is = grind (arith, nat_tests)
 
 rate_kept : (T rates : ℕ) (t : Task) (rate : ℕ) → Sound T t → RateFits T rates t rate → Kept T rates t (with_rate T t rate)
 rate_kept T rates t rate s f =
     let R = t.rate in
     let span = t.deadline - T in
     let sums : rate + (R - rate) ≡ R + (rate - R) = omega arith in
-    let products : rate * span + (R - rate) * span ≡ R * span + (rate - R) * span =
-    sym (add-mul rate (R - rate) span) ∙ (ap (λ n. n * span) sums ∙ add-mul R (rate - R) span) in
-    record {
-      sound = record {
-        rate_low = f.low;
-        rate_high = f.high;
-        period_low = s.period_low;
-        period_high = s.period_high;
-        worth = f.worth;
-        begun = s.begun;
-        coming = s.coming;
-        spans = s.spans;
-        bounded = omega (arith, products, s.bounded, f.enough);
-      };
-      number = refl;
-      shared = f.shared;
-    }
+    let products = simp add-mul at (ap (λ n. n * span) sums) in
+    search rules
 
 pub record PeriodFits (T : ℕ) (t : Task) (period : ℕ) : Type 0 where
   pub low : 1 ≤ period
@@ -66,97 +47,35 @@ pub record PeriodFits (T : ℕ) (t : Task) (period : ℕ) : Type 0 where
   pub enough : advanced_by t (deadline_at t period) ≤ t.left
 
 pub period_fits : (T : ℕ) (t : Task) (period : ℕ) → why_not_period T t period ≡ None → PeriodFits T t period
-period_fits T t period is =
-    record { low = grind (arith, nat_tests); high = grind (arith, nat_tests); worth = grind (arith, nat_tests); after = grind (arith, nat_tests); enough = grind (arith, nat_tests) }
+period_fits T t period is = grind (arith, nat_tests)
 
 period_kept : (T rates : ℕ) (t : Task) (period : ℕ) → Sound T t → rates ≤ 1000 → t.rate ≤ rates → PeriodFits T t period → Kept T rates t (with_period t period)
 period_kept T rates t period s few part f =
     let R = t.rate in
     let D = t.deadline in
     let E = deadline_at t period in
-    let spans : (E - T) + (D - E) ≡ (D - T) + (E - D) = omega (arith, s.coming, f.after) in
-    let products : R * (E - T) + R * (D - E) ≡ R * (D - T) + R * (E - D) =
-    sym (mul-add R (E - T) (D - E)) ∙ (ap (λ n. R * n) spans ∙ mul-add R (D - T) (E - D)) in
-    record {
-      sound = record {
-        rate_low = s.rate_low;
-        rate_high = s.rate_high;
-        period_low = f.low;
-        period_high = f.high;
-        worth = f.worth;
-        begun = s.begun;
-        coming = f.after;
-        spans = refl;
-        bounded = omega (arith, products, s.bounded, f.enough);
-      };
-      number = refl;
-      shared = omega arith;
-    }
+    let spans : (E - T) + (D - E) ≡ (D - T) + (E - D) = omega arith in
+    let products = simp mul-add at (ap (λ n. R * n) spans) in
+    search rules
 
 -- fewer ticks left, and another phase
 moved_kept : (T rates : ℕ) (t : Task) (event : Event) (left : ℕ) → Sound T t → rates ≤ 1000 → t.rate ≤ rates → left ≤ t.left → Kept T rates t (moved_by event left t)
-moved_kept T rates t event left s few part less =
-    record {
-      sound = record {
-        rate_low = s.rate_low;
-        rate_high = s.rate_high;
-        period_low = s.period_low;
-        period_high = s.period_high;
-        worth = s.worth;
-        begun = s.begun;
-        coming = s.coming;
-        spans = s.spans;
-        bounded = omega (arith, s.bounded);
-      };
-      number = refl;
-      shared = omega arith;
-    }
+moved_kept T rates t event left s few part less = search rules
 
 pub change_kept : (T rates : ℕ) (t : Task) (change : Change) (u : Task) → Sound T t → rates ≤ 1000 → t.rate ≤ rates → changed T rates t change ≡ Ok u → Kept T rates t u
-change_kept T rates t (to_rate rate) u s few part is =
-    let p = unless_ok (why_not_rate T rates t rate) (with_rate T t rate) u is in
-    subst (Kept T rates t) p.1 (rate_kept T rates t rate s (rate_fits T rates t rate p.0))
-change_kept T rates t (to_period period) u s few part is =
-    let p = unless_ok (why_not_period T t period) (with_period t period) u is in
-    subst (Kept T rates t) p.1 (period_kept T rates t period s few part (period_fits T t period p.0))
-change_kept T rates t wait u s few part is =
-    let p = unless_ok (why_not_ready t) (moved_by Wait t.left t) u is in
-    subst (Kept T rates t) p.1 (moved_kept T rates t Wait t.left s few part (omega arith))
-change_kept T rates t wake u s few part is =
-    let p = unless_ok (why_not_wake t) (woken T t) u is in
-    subst (Kept T rates t) p.1 (moved_kept T rates t Wake (min t.left (share T t / 1000)) s few part (omega arith))
-change_kept T rates t finish u s few part is =
-    let p = unless_ok (why_not_ready t) (moved_by Finish 0 t) u is in
-    subst (Kept T rates t) p.1 (moved_kept T rates t Finish 0 s few part (omega arith))
+change_kept T rates t (to_rate rate) u s few part is = grind (arith, rate_kept, rate_fits)
+change_kept T rates t (to_period period) u s few part is = grind (arith, period_kept, period_fits)
+change_kept T rates t wait u s few part is = grind (arith, moved_kept)
+change_kept T rates t wake u s few part is = grind (arith, moved_kept)
+change_kept T rates t finish u s few part is = grind (arith, moved_kept)
 
 -- a change by why it may not be and by what the task becomes
 pub changed_split : (T rates : ℕ) (t : Task) (change : Change) → changed T rates t change ≡ unless (why_not_changed T rates t change) (becomes T t change)
-changed_split T rates t (to_rate rate) = refl
-changed_split T rates t (to_period period) = refl
-changed_split T rates t wait = refl
-changed_split T rates t wake = refl
-changed_split T rates t finish = refl
+changed_split T rates t change = grind arith
 
 -- a task that is marked as leaving keeps its numbers
 marked_kept : (T rates : ℕ) (t : Task) → Sound T t → rates ≤ 1000 → t.rate ≤ rates → Kept T rates t (marked t)
-marked_kept T rates t s few part =
-    record {
-      sound = record {
-        rate_low = s.rate_low;
-        rate_high = s.rate_high;
-        period_low = s.period_low;
-        period_high = s.period_high;
-        worth = s.worth;
-        begun = s.begun;
-        coming = s.coming;
-        spans = s.spans;
-        bounded = s.bounded;
-      };
-      number = refl;
-      shared = omega arith;
-    }
+marked_kept T rates t s few part = search rules
 
 pub withdrawn_kept : (T rates : ℕ) (t : Task) (slot : Option Task) → Sound T t → rates ≤ 1000 → t.rate ≤ rates → withdrawn T t ≡ Ok slot → KeptSlot T rates t slot
-withdrawn_kept T rates t slot s few part is =
-    let p = unless_ok (why_not_withdrawn t) (withdrawn_slot T t) slot is in
-    subst (KeptSlot T rates t) p.1 (cond_both (goes_at_once T t) None (Some (marked t)) (KeptSlot T rates t) (λ _. tt) (λ _. marked_kept T rates t s few part))
+withdrawn_kept T rates t slot s few part is = grind (arith, marked_kept)

@@ -1,9 +1,8 @@
 -- A sound task while time passes: no later than its deadline it is sound but for that, and a deadline that has come makes it sound again.
-use Rattle.std.proofs.Common.{◌≡◌, ℕ, ◌+◌, ◌-◌, ◌*◌, ◌≤◌, eqb, Some, None, refl, ap, ◌∙◌, subst, mul-le-mul_right, mul-add, arith}
-use Rattle.rules.specs.Jobs.{after_deadline, charged, due_at, next_job}
+use Rattle.std.proofs.Common.{◌≡◌, ℕ, ◌+◌, ◌-◌, ◌*◌, ◌≤◌, Some, ap, mul-le-mul_right, mul-add, arith, rules}
+use Rattle.rules.specs.Jobs.{charged, due_at, next_job}
 use Rattle.rules.specs.Sound.{Sound, SoundSlot}
 use Rattle.rules.specs.declared.tasks.Task.{Task}
-use Rattle.std.proofs.lemmas.Bool.{cond_both, eqb-false, eqb-true}
 
 -- as a sound task, but the deadline may have come
 pub record Passed (T : ℕ) (t : Task) : Type 0 where
@@ -20,91 +19,27 @@ pub record Passed (T : ℕ) (t : Task) : Type 0 where
 -- time passes up to the deadline
 pub passes : (T c : ℕ) (t : Task) → Sound T t → T + c ≤ t.deadline → Passed (T + c) t
 passes T c t s le =
-    let R = t.rate in
-    let D = t.deadline in
-    let split : D - T ≡ (D - (T + c)) + c = omega arith in
-    let product : R * (D - T) ≡ R * (D - (T + c)) + R * c = ap (λ n. R * n) split ∙ mul-add R (D - (T + c)) c in
-    let most : R * c ≤ 1000 * c = mul-le-mul_right c s.rate_high in
-    record {
-      rate_low = s.rate_low;
-      rate_high = s.rate_high;
-      period_low = s.period_low;
-      period_high = s.period_high;
-      worth = s.worth;
-      begun = omega (arith, s.begun);
-      coming = le;
-      spans = s.spans;
-      bounded = omega (arith, s.bounded, s.begun);
-    }
+    let split : t.deadline - T ≡ (t.deadline - (T + c)) + c = omega arith in
+    let product = simp mul-add at (ap (λ n. t.rate * n) split) in
+    let most : t.rate * c ≤ 1000 * c = mul-le-mul_right c s.rate_high in
+    search rules
 
 -- a deadline that has come is dealt with
 pub due_sound : (T : ℕ) (t : Task) → Passed T t → SoundSlot T (due_at T (Some t))
-due_sound T t p =
-    cond_both (eqb t.deadline T) (after_deadline t) (Some t) (SoundSlot T)
-    (λ e. cond_both t.leaving None (Some (next_job t)) (SoundSlot T) (λ _. tt) (λ _. next (eqb-true t.deadline T e)))
-    (λ e. stay (eqb-false t.deadline T e))
+due_sound T t p = grind (arith, next)
   where
     next : t.deadline ≡ T → Sound T (next_job t)
     next now' =
         let span : (t.deadline + t.period) - T ≡ t.period = omega arith in
         let product : t.rate * ((t.deadline + t.period) - T) ≡ t.rate * t.period = ap (λ n. t.rate * n) span in
-        record {
-          rate_low = p.rate_low;
-          rate_high = p.rate_high;
-          period_low = p.period_low;
-          period_high = p.period_high;
-          worth = p.worth;
-          begun = omega arith;
-          coming = omega (arith, p.period_low);
-          spans = refl;
-          bounded = omega arith;
-        }
-
-    stay : (t.deadline ≡ T → ⊥) → Sound T t
-    stay later =
-        record {
-          rate_low = p.rate_low;
-          rate_high = p.rate_high;
-          period_low = p.period_low;
-          period_high = p.period_high;
-          worth = p.worth;
-          begun = p.begun;
-          coming = omega (arith, p.coming);
-          spans = p.spans;
-          bounded = p.bounded;
-        }
+        search rules
 
 -- the ticks that a task has run, moved from those it had left
 pub charged_passed : (T c : ℕ) (t u : Task) → charged c (Some t) ≡ Some u → c ≤ t.left → Passed T t → Passed T u
-charged_passed T c t u is le p =
-    let same = some_is (record {
-      number = t.number;
-      rate = t.rate;
-      period = t.period;
-      phase = t.phase;
-      leaving = t.leaving;
-      release = t.release;
-      deadline = t.deadline;
-      left = t.left - c;
-      ran = t.ran + c;
-    }) u is in
-    subst (Passed T) same (record {
-      rate_low = p.rate_low;
-      rate_high = p.rate_high;
-      period_low = p.period_low;
-      period_high = p.period_high;
-      worth = p.worth;
-      begun = p.begun;
-      coming = p.coming;
-      spans = p.spans;
-      bounded = omega (arith, p.bounded);
-    })
-  where
-    some_is : (a b : Task) → Some a ≡ Some b → a ≡ b
-    some_is a b e = cc
+charged_passed T c t u is le p = grind (arith, rules)
 
 -- a sound task's ticks are no more than its period
 pub few_ticks : (T : ℕ) (t : Task) → Sound T t → t.left + t.ran ≤ t.period
 few_ticks T t s =
     let most : t.rate * (t.deadline - T) ≤ 1000 * (t.deadline - T) = mul-le-mul_right (t.deadline - T) s.rate_high in
-    omega (arith, s.bounded, s.spans, s.begun, s.coming)
+    omega arith

@@ -3,6 +3,7 @@ ghost use Rattle.std.specs.Prelude.{◌≡◌, ◌^◌, ◌≤◌};
 ghost use Rattle.rules.specs.Admission.{admission, admitted};
 
 use crate::jobs::grant;
+use crate::limits::{check_period, check_rate, check_shared, check_worth};
 use crate::phases::Phase;
 use crate::refusals::Refusal;
 use crate::tasks::Task;
@@ -28,18 +29,10 @@ pub fn admit(clock: u64, taken: bool, rates: u32, asked: Reservation) -> Result<
     if taken {
         return Err(Refusal::NumberTaken);
     }
-    if asked.rate == 0 || asked.rate > 1000 {
-        return Err(Refusal::RateOutOfRange);
-    }
-    if asked.period == 0 || asked.period > 1_000_000 {
-        return Err(Refusal::PeriodOutOfRange);
-    }
-    if asked.rate as u64 * (asked.period as u64) < 1000 {
-        return Err(Refusal::JobTooSmall);
-    }
-    if rates > 1000 - asked.rate {
-        return Err(Refusal::RatesExceeded);
-    }
+    check_rate(asked.rate)?;
+    check_period(asked.period)?;
+    check_worth(asked.rate, asked.period)?;
+    check_shared(rates, asked.rate)?;
     Ok(first_job(clock, asked))
 }
 

@@ -4,12 +4,13 @@ ghost use Rattle.rules.specs.Jobs.{Chargeable, after_deadline, charged, due_at, 
 
 use crate::phases::Event;
 use crate::tasks::Task;
+use crate::ticks::whole_ticks;
 
 // The ticks of a job: rate times period in thousandths, rounded down.
 pub fn grant(rate: u32, period: u32) -> u64
     ensures { result ≡ grant_of rate period }
 {
-    rate as u64 * period as u64 / 1000
+    whole_ticks(rate, period as u64)
 }
 
 // A task at its deadline: a leaving one goes, any other gets its next job.
@@ -20,12 +21,14 @@ pub fn after_deadline(task: Task) -> Option<Task>
     if task.leaving {
         return None;
     }
-    let mut next = task;
+    let mut next = Task {
+        release: task.deadline,
+        deadline: task.deadline + task.period as u64,
+        left: grant(task.rate, task.period),
+        ran: 0,
+        ..task
+    };
     next.phase.step(Event::Deadline);
-    next.release = task.deadline;
-    next.deadline = task.deadline + task.period as u64;
-    next.left = grant(task.rate, task.period);
-    next.ran = 0;
     Some(next)
 }
 
@@ -46,20 +49,14 @@ pub fn due_at(clock: u64, slot: Option<Task>) -> Option<Task>
 pub fn left_of(slot: Option<Task>) -> u64
     ensures { result ≡ left_of slot }
 {
-    match slot {
-        Some(task) => task.left,
-        None => 0,
-    }
+    slot.map_or(0, |task| task.left)
 }
 
 // The sooner of a time and a slot's deadline.
 pub fn sooner(time: u64, slot: Option<Task>) -> u64
     ensures { result ≡ sooner_of time slot }
 {
-    match slot {
-        Some(task) => time.min(task.deadline),
-        None => time,
-    }
+    slot.map_or(time, |task| time.min(task.deadline))
 }
 
 // A slot whose task has run `count` ticks of those it had left.
@@ -67,8 +64,9 @@ pub fn charge(count: u64, slot: Option<Task>) -> Option<Task>
     requires { Chargeable count slot }
     ensures { result ≡ charged count slot }
 {
-    let mut task = slot?;
-    task.left -= count;
-    task.ran += count;
-    Some(task)
+    slot.map(|task| Task {
+        left: task.left - count,
+        ran: task.ran + count,
+        ..task
+    })
 }

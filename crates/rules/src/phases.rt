@@ -18,6 +18,7 @@ pub enum Event {
 }
 
 impl Phase {
+    // One match on the phase together with the event, in place: the form that a machine is to have here.
     pub fn step(&mut self, event: Event)
         ensures { self.new ≡ stepped self.old event }
     {

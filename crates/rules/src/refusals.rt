@@ -1,42 +1,28 @@
 // Why a call is refused, each reason with its number.
 ghost use Rattle.std.specs.Prelude.{◌≡◌};
-ghost use Rattle.rules.specs.Refusals.{code as code_of};
+ghost use Rattle.rules.specs.Refusals.{code};
 
 #[derive(Clone, Copy, PartialEq, Eq, Debug)]
 pub enum Refusal {
-    NoSuchTask,
-    NumberTaken,
-    NotReady,
-    NotWaiting,
-    RateOutOfRange,
-    PeriodOutOfRange,
-    JobTooSmall,
-    RatesExceeded,
-    AheadOfRate,
-    BehindRate,
-    TooFewTicks,
-    CountTooHigh,
-    ClockAtEnd,
+    NoSuchTask = 5,
+    NumberTaken = 6,
+    NotReady = 7,
+    NotWaiting = 8,
+    RateOutOfRange = 9,
+    PeriodOutOfRange = 10,
+    JobTooSmall = 11,
+    RatesExceeded = 12,
+    AheadOfRate = 13,
+    BehindRate = 14,
+    TooFewTicks = 15,
+    CountTooHigh = 16,
+    ClockAtEnd = 17,
 }
 
-impl Refusal {
-    pub fn code(self) -> u8
-        ensures { result ≡ code_of self }
-    {
-        match self {
-            Refusal::NoSuchTask => 5,
-            Refusal::NumberTaken => 6,
-            Refusal::NotReady => 7,
-            Refusal::NotWaiting => 8,
-            Refusal::RateOutOfRange => 9,
-            Refusal::PeriodOutOfRange => 10,
-            Refusal::JobTooSmall => 11,
-            Refusal::RatesExceeded => 12,
-            Refusal::AheadOfRate => 13,
-            Refusal::BehindRate => 14,
-            Refusal::TooFewTicks => 15,
-            Refusal::CountTooHigh => 16,
-            Refusal::ClockAtEnd => 17,
-        }
+impl From<Refusal> for u8 {
+    ghost from_gives = { λ why number. number ≡ code why };
+
+    fn from(why: Refusal) -> u8 {
+        why as u8
     }
 }

@@ -25,23 +25,17 @@ pub struct Task {
 pub fn entry_of(slot: Option<Task>) -> Option<Entry>
     ensures { result ≡ entry_of slot }
 {
-    let task = slot?;
-    if task.phase != Phase::Ready || task.left == 0 {
-        return None;
-    }
-    Some(Entry {
-        number: task.number,
-        deadline: task.deadline,
-        rate: task.rate,
-    })
+    slot.filter(|task| task.phase == Phase::Ready && task.left > 0)
+        .map(|task| Entry {
+            number: task.number,
+            deadline: task.deadline,
+            rate: task.rate,
+        })
 }
 
 // The rate that a slot's task has in force.
 pub fn rate_of(slot: Option<Task>) -> u32
     ensures { result ≡ rate_of slot }
 {
-    match slot {
-        Some(task) => task.rate,
-        None => 0,
-    }
+    slot.map_or(0, |task| task.rate)
 }

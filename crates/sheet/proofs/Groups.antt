@@ -1,12 +1,13 @@
 -- The groups of a number, read from the low one up with what they are worth so far.
-use Rattle.std.proofs.Common.{◌≡◌, ℕ, zero, suc, ◌+◌, ◌-◌, ◌*◌, ◌^◌, ◌<◌, ◌≤◌, Bool, true, false, not, ◌&&◌, eqb, ltb, List, [], ◌∷◌, length, get_or, drop, IfOk, Ok, Err, Result, sym, refl, ap, ◌∙◌, mul_assoc, pow-suc, mul-add, add-one, arith, lit≤}
-use Rattle.std.proofs.lemmas.List.{drop_more, drop_all}
+use Rattle.std.proofs.Common.{◌≡◌, ℕ, zero, suc, ◌+◌, ◌-◌, ◌*◌, ◌^◌, ◌<◌, ◌≤◌, Bool, true, false, cond, not, ◌&&◌, eqb, ltb, List, [], ◌∷◌, length, get_or, take, drop, min, IfOk, Ok, Err, Result, sym, refl, ap, ◌∙◌, mul_assoc, pow-suc, mul-add, add-one, arith}
+use Rattle.std.proofs.lemmas.List.{drop_more, take_min}
 use Rattle.std.proofs.lemmas.Bool.{cond-true, cond-false, cond_both, lt-ltb, le-ltb, ne_eqb}
 use Rattle.std.proofs.lemmas.Result.{IfOk-at_ok}
 use Rattle.std.proofs.lemmas.Nat.{mul-le}
+use Rattle.std.proofs.Math.Nat.{pow-le-pow_right}
 use Rattle.sheet.specs.declared.numbers.Number.{Number}
 use Rattle.sheet.specs.declared.numbers.NumberFault.{NumberFault}
-use Rattle.sheet.specs.declared.numbers.NumberFault.TheVariants.{Cut, Malformed}
+use Rattle.sheet.specs.declared.numbers.NumberFault.TheVariants.{Malformed}
 use Rattle.sheet.specs.Numbers.{below, last_group, groups, number_read}
 
 -- what the groups from here on make of a number of which `size` groups, worth `value`, have been read
@@ -38,10 +39,6 @@ one_fewer i h = omega arith
 later : (i : ℕ) → eqb (i + 1) 0 ≡ false
 later i = ne_eqb (i + 1) 0 (λ e. omega arith)
 
--- the bytes end before the group `i`
-pub ends : (bytes : List ℕ) (place i : ℕ) → i < 4 → length bytes ≤ i → left bytes place i ≡ Err (Cut place)
-ends bytes place i h k = rw (one_fewer i h, drop_all i bytes k)
-
 opened : (bytes : List ℕ) (place i : ℕ) → i < 4 → i < length bytes → left bytes place i ≡ groups (suc (4 - (i + 1))) (eqb i 0) (get_or bytes i 0 ∷ drop (i + 1) bytes) place
 opened bytes place i h k = rw (one_fewer i h, drop_more bytes i 0 k)
 
@@ -62,23 +59,25 @@ at_more w v bytes place i h k large =
     let e = opened bytes place i h k ∙ cond-false _ _ _ (le-ltb _ _ large) in
     ap (onto w v i) e ∙ onto_below w v i _ _ ∙ rw later refl
 
--- before the first group all is left
-pub whole : (bytes : List ℕ) (place : ℕ) → onto 1 0 0 (left bytes place 0) ≡ number_read bytes place
-unfolding number_read
-whole bytes place = from_nothing (groups 4 true bytes place)
+-- no group past the first `n` is looked at
+cut : (n : ℕ) (first : Bool) (bytes : List ℕ) (place : ℕ) → groups n first (take n bytes) place ≡ groups n first bytes place
+cut zero first bytes place = refl
+cut (suc n) first [] place = refl
+cut (suc n) first (b ∷ bytes) place =
+    ap (λ r. cond (ltb b 128) (last_group first b place) (below (b - 128) r)) (cut n false bytes place)
 
--- a group of a number is worth little enough for 28 bits
-pub weight_most : (i : ℕ) → i < 4 → 128 ^ i ≤ 2097152
-weight_most zero h = lit≤ tt
-weight_most (suc zero) h = lit≤ tt
-weight_most (suc (suc zero)) h = lit≤ tt
-weight_most (suc (suc (suc zero))) h = lit≤ tt
-weight_most (suc (suc (suc (suc i)))) h = absurd (omega arith)
+-- before the first group all is left
+pub whole : (bytes : List ℕ) (place n : ℕ) → n ≡ min 4 (length bytes) → onto 1 0 0 (left (take n bytes) place 0) ≡ number_read bytes place
+unfolding number_read
+whole bytes place n e =
+    from_nothing (groups 4 true (take n bytes) place)
+    ∙ ap (λ l. groups 4 true l place) (ap (λ m. take m bytes) e ∙ take_min 4 bytes)
+    ∙ cut 4 true bytes place
 
 -- one more group keeps the value below the weight of the next, and that within 28 bits
 pub room : (i w v d : ℕ) → i < 4 → w ≡ 128 ^ i → v < w → d < 128 → (v + w * d < w * 128) × (w * 128 ≤ 268435456)
 room i w v d h e below-weight small =
-    let most = weight_most i h in
+    let most : 128 ^ i ≤ 128 ^ 3 = pow-le-pow_right {n = 128} (omega arith) {j = 3} (omega arith) in
     let group = mul-le w d w 127 (omega arith) (omega arith) in
     (omega arith, omega arith)
 

@@ -10,10 +10,9 @@ use Rattle.sheet.proofs.Bodies.{part_none}
 use Rattle.sheet.proofs.Readings.{Advances}
 use Rattle.sheet.proofs.Ends.{TaskName, Past, record_ends}
 
--- a record begins within the sheet
-inside : (sheet : List ℕ) (place : ℕ) (found : RecordValue × ℕ) → record_at sheet place ≡ Ok (Some found) → place < length sheet
-inside sheet place found e =
-    ⊎_elim (λ h. h) (λ h. let z : ◌≡◌ {A = ℕ} 0 1 = cc (part_none body_in sheet place h) in absurd (omega arith)) (cases_lt place (length sheet))
+-- what is not the end stands within the sheet
+pub inside : (sheet : List ℕ) (place : ℕ) → ¬ (record_at sheet place ≡ Ok None) → place < length sheet
+inside sheet place more = ⊎_elim (λ h. h) (λ h. absurd (more (sym (part_none body_in sheet place h)))) (cases_lt place (length sheet))
 
 -- what is known of a record that was read
 known : (sheet : List ℕ) (place : ℕ) (found : RecordValue) (end : ℕ) → record_at sheet place ≡ Ok (Some (found, end)) → Past place (place + length (drop place sheet)) (Some (found, end))
@@ -24,7 +23,7 @@ known sheet place found end e = IfOk-at_ok (Past place (place + length (drop pla
 pub progress : (sheet : List ℕ) (place : ℕ) (found : RecordValue) (end : ℕ) → record_at sheet place ≡ Ok (Some (found, end)) → (place < end) × (end ≤ length sheet)
 progress sheet place found end e =
     let past = known sheet place found end e in
-    let begins = inside sheet place (found, end) e in
+    let begins = inside sheet place (λ none. cc) in
     (past.0, omega (arith, length-drop place sheet))
 
 -- the name of a task has 1 to 12 bytes

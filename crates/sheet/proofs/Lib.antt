@@ -1,5 +1,4 @@
 pub mod Groups
-pub mod Fields
 pub mod Names
 pub mod Bodies
 pub mod Ends

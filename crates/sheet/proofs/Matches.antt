@@ -1,4 +1,4 @@
--- The first match of a name, carried from record to record.
+-- A name that no task may have is found nowhere.
 use Rattle.std.proofs.Common.{◌≡◌, ℕ, zero, suc, ◌-◌, ◌≤◌, List, length, IfOk, Some, None, Ok, Err, Option, Result, sym, refl, ap, ◌∙◌, subst, ⊎_elim, arith}
 use Rattle.std.specs.Option.{option_or}
 use Rattle.std.specs.Str.{bytes_eq}
@@ -10,31 +10,6 @@ use Rattle.sheet.specs.Sheets.{Sheet, Unfit, before, named, found_in, sheet_from
 use Rattle.sheet.proofs.Ends.{TaskName}
 use Rattle.sheet.proofs.Laws.{advances, progress, name_length}
 use Rattle.sheet.proofs.Readings.{reading_entry, reading_fault, reading_none}
-
-in_turn : (first here : Option ℕ) (r : Result (Option ℕ) RecordFault) → before first (before here r) ≡ before (option_or first here) r
-in_turn (Some place) here (Ok later) = refl
-in_turn None here (Ok later) = refl
-in_turn first here (Err fault) = refl
-
-no_later : (first : Option ℕ) → before first (Ok None) ≡ Ok first
-no_later (Some place) = refl
-no_later None = refl
-
--- the answer, with `first` the match so far, from a place on
-abbrev answer : List ℕ → List ℕ → Option ℕ → ℕ → Result (Option ℕ) RecordFault
-answer name sheet first place = before first (found_in name (sheet_from sheet place))
-
-pub match_record : (name sheet : List ℕ) (first : Option ℕ) (place : ℕ) (found : RecordValue) (end : ℕ) (next : Option ℕ) → record_at sheet place ≡ Ok (Some (found, end)) → next ≡ option_or first (named name found) → answer name sheet first place ≡ answer name sheet next end
-match_record name sheet first place found end next e is =
-    ap (λ s. before first (found_in name s)) (reading_entry record_at advances sheet place found end e)
-    ∙ in_turn first (named name found) (found_in name (sheet_from sheet end))
-    ∙ ap (λ f. before f (found_in name (sheet_from sheet end))) (sym is)
-
-pub match_none : (name sheet : List ℕ) (first : Option ℕ) (place : ℕ) → record_at sheet place ≡ Ok None → answer name sheet first place ≡ Ok first
-match_none name sheet first place e = ap (λ s. before first (found_in name s)) (reading_none record_at advances sheet place e) ∙ no_later first
-
-pub match_fault : (name sheet : List ℕ) (first : Option ℕ) (place : ℕ) (fault : RecordFault) → record_at sheet place ≡ Err fault → answer name sheet first place ≡ Err fault
-match_fault name sheet first place fault e = ap (λ s. before first (found_in name s)) (reading_fault record_at advances sheet place fault e)
 
 unfit_named : (name : List ℕ) (found : RecordValue) → Unfit name → TaskName found → named name found ≡ None
 unfit_named name (task t) unfit h =

@@ -3,3 +3,4 @@ pub mod Readings
 pub mod Records
 pub mod Sheets
 pub mod Values
+pub mod Walks

@@ -8,3 +8,4 @@ pub mod numbers;
 pub mod records;
 #[cfg(test)]
 mod tests;
+pub mod walk;

@@ -1,32 +1,19 @@
 // Where a name stands in a sheet.
 ghost use Rattle.std.specs.Prelude.{◌≡◌, IfOk, None};
-ghost use Rattle.std.specs.Option.{option_or};
 ghost use Rattle.sheet.specs.Values.{record_value};
 ghost use Rattle.sheet.specs.Sheets.{Unfit, named, found_in, sheet_of};
 
-use crate::records::{Record, RecordFault, record_at};
+use crate::records::{Record, RecordFault};
+use crate::walk::Records;
 
 // Where the name of a record stands, if it is a task of that name.
-fn name_place(candidate: Record, name: &[u8]) -> Option<usize>
+fn name_place(candidate: Record<'_>, name: &[u8]) -> Option<usize>
     ensures { result ≡ named name.now (record_value candidate.entry) }
 {
     match candidate {
-        Record::Task(task) => {
-            if task.name == name {
-                Some(task.name_place)
-            } else {
-                None
-            }
-        }
-        Record::Note { .. } => None,
+        Record::Task(task) if task.name == name => Some(task.name_place),
+        Record::Task(_) | Record::Note { .. } => None,
     }
-}
-
-// The match so far, or else the one in this record.
-fn earlier(first: Option<usize>, candidate: Record, name: &[u8]) -> Option<usize>
-    ensures { result ≡ option_or first (named name.now (record_value candidate.entry)) }
-{
-    first.or(name_place(candidate, name))
 }
 
 // The offset of the first task name that equals `name`. A fault anywhere in the sheet counts, also behind a match.
@@ -35,10 +22,8 @@ pub fn find(sheet: &[u8], name: &[u8]) -> Result<Option<usize>, RecordFault>
     ensures unfit { Unfit name.now → IfOk result (λ found. found ≡ None) }
 {
     let mut first = None;
-    let mut place = 0;
-    while let Some(found) = record_at(sheet, place)? {
-        first = earlier(first, found.record, name);
-        place = found.end;
+    for record in Records::new(sheet) {
+        first = first.or(name_place(record?, name));
     }
     Ok(first)
 }

@@ -1,5 +1,5 @@
 // A number of the sheet: groups of seven bits, the low group first.
-ghost use Rattle.std.specs.Prelude.{◌≡◌, not, ◌&&◌, ◌==◌};
+ghost use Rattle.std.specs.Prelude.{◌≡◌, ◌≤◌, not, ◌&&◌, ◌==◌, length, IfOk};
 ghost use Rattle.sheet.specs.Numbers.{number_read};
 
 #[derive(Clone, Copy, PartialEq, Eq, Debug)]
@@ -31,26 +31,28 @@ fn adds_nothing(byte: u8, index: usize) -> bool
 
 // Reads the number that begins `bytes`; `place` is the offset that a fault names.
 pub fn read_number(bytes: &[u8], place: usize) -> Result<Number, NumberFault>
-    ensures { result ≡ number_read bytes.now place }
+    ensures value { result ≡ number_read bytes.now place }
+    ensures within { IfOk result (λ number. number.size ≤ length bytes.now) }
 {
     let mut value: u32 = 0;
     let mut weight: u32 = 1;
-    for index in 0..MOST_GROUPS {
-        if index >= bytes.len() {
-            return Err(NumberFault::Cut(place));
-        }
-        let byte = bytes[index];
+    let groups = &bytes[..MOST_GROUPS.min(bytes.len())];
+    for (index, &byte) in groups.iter().enumerate() {
         if byte < MORE {
             if adds_nothing(byte, index) {
                 return Err(NumberFault::Malformed(place));
             }
             return Ok(Number {
-                value: value + weight * byte as u32,
+                value: value + weight * u32::from(byte),
                 size: index + 1,
             });
         }
-        value += weight * (byte - MORE) as u32;
+        value += weight * u32::from(byte - MORE);
         weight *= 128;
     }
-    Err(NumberFault::Malformed(place))
+    if bytes.len() < MOST_GROUPS {
+        Err(NumberFault::Cut(place))
+    } else {
+        Err(NumberFault::Malformed(place))
+    }
 }

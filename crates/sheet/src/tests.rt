@@ -3,10 +3,7 @@ use crate::lookup::find;
 use crate::records::Told;
 
 fn told(sheet: &[u8]) -> Option<Told> {
-    match find(sheet, b"") {
-        Ok(_) => None,
-        Err(fault) => Some(fault.told()),
-    }
+    find(sheet, b"").err().map(Told::from)
 }
 
 fn fault(number: u8, layer: u8, place: usize) -> Option<Told> {

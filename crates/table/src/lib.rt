@@ -7,7 +7,7 @@ ghost use Rattle.std.specs.Prelude.{◌≡◌};
 ghost use Rattle.ready.specs.Held.{Slotted, better as better_of, none};
 ghost use Rattle.std.proofs.Common.{rules};
 
-use order::entries::{Entry, is_task_number};
+use order::entries::{Entry, slot_of};
 use order::ties::TieOrder;
 use ready::ReadyList;
 
@@ -15,6 +15,7 @@ use ready::ReadyList;
 #[derive(Drop)]
 pub struct Table<O> {
     slots: [Option<Entry>; 64],
+    // only its type is read; a `PhantomData` would have `new` drop the order, which need not be `Drop`
     order: O,
 }
 
@@ -34,15 +35,8 @@ fn better<O: TieOrder>(best: Option<Entry>, slot: Option<Entry>) -> Option<Entry
     ensures { result ≡ better_of O.TieOrder.before best slot }
 {
     match (best, slot) {
-        (best, None) => best,
-        (None, Some(e)) => Some(e),
-        (Some(b), Some(e)) => {
-            if O::comes_before(e, b) {
-                Some(e)
-            } else {
-                Some(b)
-            }
-        }
+        (Some(b), Some(e)) => Some(if O::comes_before(e, b) { e } else { b }),
+        _ => best.or(slot),
     }
 }
 
@@ -60,12 +54,10 @@ impl<O: TieOrder> ReadyList for Table<O> {
     }
 
     fn put(&mut self, e: Entry) -> bool {
-        if !is_task_number(e.number) {
+        let Some(place) = slot_of(e.number) else {
             return false;
-        }
-        let place = (e.number - 1) as usize;
-        let old = self.slots[place];
-        if old.is_some() {
+        };
+        if self.slots[place].is_some() {
             return false;
         }
         self.slots[place] = Some(e);
@@ -73,23 +65,15 @@ impl<O: TieOrder> ReadyList for Table<O> {
     }
 
     fn take_out(&mut self, number: u32) -> bool {
-        if !is_task_number(number) {
+        let Some(place) = slot_of(number) else {
             return false;
-        }
-        let place = (number - 1) as usize;
-        let old = self.slots[place];
-        if old.is_none() {
-            return false;
-        }
-        self.slots[place] = None;
-        true
+        };
+        self.slots[place].take().is_some()
     }
 
     fn first(&self) -> Option<Entry> {
-        let mut best = None;
-        for slot in self.slots.iter() {
-            best = better::<O>(best, *slot);
-        }
-        best
+        self.slots
+            .iter()
+            .fold(None, |best, slot| better::<O>(best, *slot))
     }
 }
