@@ -1,39 +1,120 @@
 // The lines of a rehearsal.
-ghost use Rattle.std.specs.Prelude.{◌≡◌, ◌++◌, string_bytes, OnOk};
-ghost use Rattle.rehearsal.specs.Lines.{line_of};
+ghost use Rattle.std.specs.Prelude.{◌≡◌, ◌++◌, string_bytes, OnOk, Some};
+ghost use Rattle.rehearsal.specs.declared.lines.Refused.TheVariants.{ByRule};
+ghost use Rattle.rehearsal.specs.Lines.{accepted_as, line_of, refused_as};
 
+use crate::scripts::StepFault;
+use controller::faults::SheetFault;
+use controller::states::Runs;
+use rules::refusals::Refusal;
 use sheet::records::Told;
 use std::fmt;
 
-// What a line says of a call.
-#[derive(Clone, Copy)]
-pub enum Outcome {
-    // the call was accepted: the count of tasks for a sheet, else 0
-    Accepted(u32),
-    // the sheet has a fault
-    Faulty(Told),
-    // a turn was settled; the task's number, or 0 where it was idle
-    Ran(u32),
-    // the call was refused, or its record is bad
-    Refused(u8),
+// What was accepted.
+#[derive(Clone, Copy, PartialEq, Eq, Debug)]
+pub enum Accepted {
+    // A sheet with so many tasks.
+    Sheet(u32),
+    // A call on one task.
+    Call,
+    // A turn, with who had it.
+    Ran(Runs),
 }
 
-// Adds the line of one call: the clock after it, its code byte, a word and its values.
-pub fn write_line(out: &mut String, clock: u64, code: u8, outcome: Outcome) -> fmt::Result
-    ensures { OnOk result (string_bytes out.new ≡ string_bytes out.old ++ line_of clock code outcome) }
-{
-    match outcome {
-        Outcome::Accepted(tasks) => write!(out, "{clock} {code} ok {tasks}\n")?,
-        Outcome::Faulty(fault) => {
-            let Told {
-                number,
-                layer,
-                place,
-            } = fault;
-            write!(out, "{clock} {code} no {number} {layer} {place}\n")?;
+impl fmt::Display for Accepted {
+    ghost output = { λ accepted. Some (accepted_as accepted) };
+
+    fn fmt<W: fmt::Write>(&self, f: &mut fmt::Formatter<W>) -> fmt::Result {
+        match self {
+            Accepted::Sheet(tasks) => write!(f, "ok {tasks}"),
+            Accepted::Call => write!(f, "ok 0"),
+            Accepted::Ran(Runs::Task { number, .. }) => write!(f, "run {number}"),
+            Accepted::Ran(Runs::Idle) => write!(f, "run 0"),
         }
-        Outcome::Ran(number) => write!(out, "{clock} {code} run {number}\n")?,
-        Outcome::Refused(number) => write!(out, "{clock} {code} no {number}\n")?,
     }
+}
+
+// Why a sheet or a call was not accepted.
+#[derive(Clone, Copy, PartialEq, Eq, Debug)]
+pub enum Refused {
+    // The sheet has a fault.
+    BadSheet(SheetFault),
+    // A rule speaks against the call.
+    ByRule(Refusal),
+    // The call's record has a fault.
+    BadRecord(StepFault),
+}
+
+impl From<Refusal> for Refused {
+    ghost from_gives = { λ why whole. whole ≡ ByRule why };
+
+    fn from(value: Refusal) -> Refused {
+        Refused::ByRule(value)
+    }
+}
+
+impl fmt::Display for Refused {
+    ghost output = { λ refused. Some (refused_as refused) };
+
+    fn fmt<W: fmt::Write>(&self, f: &mut fmt::Formatter<W>) -> fmt::Result {
+        match self {
+            Refused::BadSheet(fault) => {
+                let Told {
+                    number,
+                    layer,
+                    place,
+                } = fault.told();
+                write!(f, "no {number} {layer} {place}")
+            }
+            Refused::ByRule(why) => write!(f, "no {}", why.code()),
+            Refused::BadRecord(fault) => write!(f, "no {}", u8::from(*fault)),
+        }
+    }
+}
+
+pub type Outcome = Result<Accepted, Refused>;
+
+// The line of one call: the clock after it, its code byte and what came of it.
+#[derive(Clone, Copy, PartialEq, Eq, Debug)]
+pub struct Line {
+    pub clock: u64,
+    pub code: u8,
+    pub outcome: Outcome,
+}
+
+impl Line {
+    // The line of a sheet, which has the code byte 0.
+    pub(crate) fn of_sheet(outcome: Outcome) -> Line
+        ensures { result ≡ record { clock = 0; code = 0; outcome = outcome } }
+    {
+        Line {
+            clock: 0,
+            code: 0,
+            outcome,
+        }
+    }
+}
+
+impl fmt::Display for Line {
+    ghost output = { λ line. Some (line_of line.clock line.code line.outcome) };
+
+    fn fmt<W: fmt::Write>(&self, f: &mut fmt::Formatter<W>) -> fmt::Result {
+        let Line {
+            clock,
+            code,
+            outcome,
+        } = *self;
+        match outcome {
+            Ok(accepted) => writeln!(f, "{clock} {code} {accepted}"),
+            Err(refused) => writeln!(f, "{clock} {code} {refused}"),
+        }
+    }
+}
+
+// Adds a line to those before it.
+pub fn write_line(out: &mut String, line: Line) -> fmt::Result
+    ensures { OnOk result (string_bytes out.new ≡ string_bytes out.old ++ line_of line.clock line.code line.outcome) }
+{
+    write!(out, "{line}")?;
     Ok(())
 }

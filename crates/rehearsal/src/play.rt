@@ -3,59 +3,48 @@ ghost use Rattle.std.specs.Prelude.{◌≡◌, ◌++◌, take, IfOk, string_byte
 ghost use Rattle.controller.specs.Making.{made as made_of};
 ghost use Rattle.controller.specs.Tied.{Tied};
 ghost use Rattle.rehearsal.specs.Opened.{opening_of};
-ghost use Rattle.rehearsal.specs.Rehearsals.{change_code, code_of, lines_of, opening, performed, played, rehearsed, said_of};
-ghost use Rattle.rehearsal.specs.Scripts.{step_at};
+ghost use Rattle.rehearsal.specs.Lines.{line_of};
+ghost use Rattle.rehearsal.specs.Rehearsals.{lines_of, opening, performed, played, record_code, recorded, rehearsed, said_of};
+ghost use Rattle.rehearsal.specs.Scripts.{script_from};
 ghost use Rattle.rehearsal.specs.Turns.{done_by};
-ghost use Rattle.sheet.specs.Readings.{reading_from};
 
-use crate::lines::{Outcome, write_line};
-use crate::scripts::{ADMIT, FINISH, PERIOD, RATE, Step, TURN, WAIT, WAKE, step_at};
+use crate::lines::{Accepted, Line, Outcome, Refused, write_line};
+use crate::scripts::{BadStep, Records, Step};
 use crate::turns::take_turn;
 use controller::make::make;
 use controller::memory::TaskMemory;
 use controller::states::Resting;
 use ready::ReadyList;
-use rules::changes::Change;
 use rules::refusals::Refusal;
-use sheet::records::{Rest, Told, read_field};
+use sheet::numbers::NumberFault;
+use sheet::records::{RecordFault, Rest, read_field};
 use std::alloc::Global;
 use std::fmt;
 
 // The sheet's bytes, and the offset of the first call record behind them.
-fn read_opening<'a>(input: &'a [u8]) -> Result<(&'a [u8], usize), Told>
+fn read_opening<'a>(input: &'a [u8]) -> Result<(&'a [u8], usize), RecordFault>
     ensures { opening_of result ≡ opening input.now }
 {
     let whole = Rest {
         bytes: input,
         place: 0,
     };
-    let (size, rest) = match read_field(whole) {
-        Ok(read) => read,
-        Err(fault) => return Err(fault.told()),
-    };
-    let bytes = rest.bytes;
+    let (size, rest) = read_field(whole)?;
     let count = size.value as usize;
-    if count > bytes.len() {
-        return Err(Told {
-            number: 1,
-            layer: 1,
-            place: 0,
-        });
-    }
-    Ok((&bytes[0..count], rest.place + count))
+    let sheet = rest.bytes.get(..count).ok_or(NumberFault::Cut(0))?;
+    Ok((sheet, rest.place + count))
 }
 
-// What the line of a call on one task says.
+// What comes of a call on one task.
 fn outcome_of(answer: Result<(), Refusal>) -> Outcome
     ensures { result ≡ said_of answer }
 {
-    match answer {
-        Ok(()) => Outcome::Accepted(0),
-        Err(why) => Outcome::Refused(why.code()),
-    }
+    answer?;
+    Ok(Accepted::Call)
 }
 
-// Carries out one call record.
+// Carries out one call. Memory and list are lent to it, as to each call of the controller.
+#[tactic(auto, using(crate::proofs::Playing::said_accepted))]
 fn perform<L: ReadyList>(
     rest: Resting,
     step: Step,
@@ -79,64 +68,58 @@ fn perform<L: ReadyList>(
     }
 }
 
-// The code byte that a call record opens with.
-fn code_of(step: Step) -> u8
-    ensures { result ≡ code_of step }
+// Carries out a call record, and gives its line. A bad one changes nothing.
+fn play_record<L: ReadyList>(
+    rest: Resting,
+    found: Result<Step, BadStep>,
+    memory: &mut TaskMemory,
+    list: &mut L,
+) -> (Resting, Line)
+    requires { Tied rest.clock memory.old.slots (L.ReadyList.held list.old) (L.ReadyList.ok list.old) }
+    ensures done { done_by result.0 memory.new.slots result.1.outcome ≡ recorded L.Order.TieOrder.before rest.clock memory.old.slots found }
+    ensures code { result.1.code ≡ record_code found }
+    ensures clock { result.1.clock ≡ result.0.clock }
+    ensures tied { Tied result.0.clock memory.new.slots (L.ReadyList.held list.new) (L.ReadyList.ok list.new) }
 {
-    match step {
-        Step::Admit { .. } => ADMIT,
-        Step::Change { change, .. } => change_code(change),
-        Step::Turn { .. } => TURN,
-    }
+    let (rest, code, outcome) = match found {
+        Ok(step) => {
+            let (rest, outcome) = perform(rest, step, memory, list);
+            (rest, u8::from(step.code()), outcome)
+        }
+        Err(bad) => (rest, bad.code, Err(Refused::BadRecord(bad.why))),
+    };
+    let line = Line {
+        clock: rest.clock(),
+        code,
+        outcome,
+    };
+    (rest, line)
 }
 
-fn change_code(change: Change) -> u8
-    ensures { result ≡ change_code change }
-{
-    match change {
-        Change::Rate(_) => RATE,
-        Change::Period(_) => PERIOD,
-        Change::Wait => WAIT,
-        Change::Wake => WAKE,
-        Change::Finish => FINISH,
-    }
-}
-
-// Carries out the call records from an offset on, a line for each.
+// The line of a sheet with so many tasks, and a line for each call record from an offset on.
 fn play<L: ReadyList>(
-    input: &[u8],
-    start: usize,
     first: Resting,
+    tasks: u32,
+    records: Records,
     memory: &mut TaskMemory,
     list: &mut L,
     out: &mut String,
-) -> fmt::Result
+) -> (Resting, fmt::Result)
     requires { Tied first.clock memory.old.slots (L.ReadyList.held list.old) (L.ReadyList.ok list.old) }
-    ensures { OnOk result (string_bytes out.new ≡ string_bytes out.old ++ lines_of L.Order.TieOrder.before first.clock memory.old.slots (reading_from step_at input.now start)) }
+    ensures { OnOk result.1 (string_bytes out.new ≡ string_bytes out.old ++ (line_of 0 0 (Ok (Accepted.Sheet tasks)) ++ lines_of L.Order.TieOrder.before first.clock memory.old.slots (script_from records.entry.input.now records.entry.place))) }
 {
+    if let Err(error) = write_line(out, Line::of_sheet(Ok(Accepted::Sheet(tasks)))) {
+        return (first, Err(error));
+    }
     let mut rest = first;
-    let mut place = start;
-    loop {
-        let found = match step_at(input, place) {
-            Ok(found) => found,
-            Err(bad) => {
-                let clock = rest.retire();
-                return write_line(out, clock, bad.code, Outcome::Refused(bad.number));
-            }
-        };
-        let Some((step, end)) = found else {
-            let _ = rest.retire();
-            return Ok(());
-        };
-        let (next, outcome) = perform(rest, step, memory, list);
-        let written = write_line(out, next.clock(), code_of(step), outcome);
+    for found in records {
+        let (next, line) = play_record(rest, found, memory, list);
         rest = next;
-        place = end;
-        if written.is_err() {
-            let _ = rest.retire();
-            return written;
+        if let Err(error) = write_line(out, line) {
+            return (rest, Err(error));
         }
     }
+    (rest, Ok(()))
 }
 
 // Makes the controller from the sheet, writes the sheet's line and plays the calls behind it.
@@ -150,20 +133,19 @@ fn play_sheet<L: ReadyList>(
     ensures { OnOk result (string_bytes out.new ≡ string_bytes out.old ++ played L.Order.TieOrder.before input.now place (made_of sheet.now)) }
 {
     let mut memory = TaskMemory::new();
-    let (rest, answer) = make(sheet, &mut memory, list);
-    match answer {
+    let (rest, made) = make(sheet, &mut memory, list);
+    let (rest, played) = match made {
         Ok(tasks) => {
-            if write_line(out, 0, 0, Outcome::Accepted(tasks)).is_err() {
-                let _ = rest.retire();
-                return Err(fmt::Error);
-            }
-            play(input, place, rest, &mut memory, list, out)
+            let records = Records { input, place };
+            play(rest, tasks, records, &mut memory, list, out)
         }
         Err(fault) => {
-            let _ = rest.retire();
-            write_line(out, 0, 0, Outcome::Faulty(fault.told()))
+            let line = Line::of_sheet(Err(Refused::BadSheet(fault)));
+            (rest, write_line(out, line))
         }
-    }
+    };
+    let _ = rest.retire();
+    played
 }
 
 // No more of the input is looked at.
@@ -173,7 +155,7 @@ pub const LONGEST_INPUT: usize = 65_536;
 fn front<'a>(input: &'a [u8]) -> &'a [u8]
     ensures { result.now ≡ take 65536 input.now }
 {
-    &input[0..LONGEST_INPUT.min(input.len())]
+    input.get(..LONGEST_INPUT).unwrap_or(input)
 }
 
 // A whole rehearsal: what it prints for the input. It fails only for want of memory.
@@ -188,7 +170,10 @@ pub fn rehearse<L: ReadyList>(
     let mut out = String::new(heap);
     match read_opening(input) {
         Ok((sheet, place)) => play_sheet(input, sheet, place, list, &mut out)?,
-        Err(fault) => write_line(&mut out, 0, 0, Outcome::Faulty(fault))?,
+        Err(fault) => {
+            let line = Line::of_sheet(Err(Refused::BadSheet(fault.into())));
+            write_line(&mut out, line)?
+        }
     }
     Ok(out)
 }

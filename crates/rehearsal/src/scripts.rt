@@ -1,11 +1,53 @@
 // The call records of a rehearsal: a code byte and its numbers.
-ghost use Rattle.std.specs.Prelude.{◌≡◌, ◌+◌, ◌^◌, ◌<◌, length, IfOk};
-ghost use Rattle.rehearsal.specs.Scripts.{admit_in, argument_in, argument_of, call_in, event_in, one_in, setting_in, step_at, turn_in, two_in};
+ghost use Rattle.std.specs.Iterator.{at_most};
+ghost use Rattle.std.specs.Prelude.{◌≡◌, ◌+◌, ◌-◌, ◌^◌, ◌<◌, length};
+ghost use Rattle.rehearsal.specs.Codes.{byte_of, code_in};
+ghost use Rattle.rehearsal.specs.declared.scripts.StepFault.TheVariants.{InField};
+ghost use Rattle.rehearsal.specs.Scripts.{Gives, change_in, code_of, number_of, numbers_in, record_in, script_from, step_at, step_in};
 ghost use Rattle.sheet.specs.Values.{left_of};
 
 use rules::admission::Reservation;
 use rules::changes::Change;
-use sheet::records::{Field, Rest, read_field};
+use sheet::records::{RecordFault, Rest, read_field};
+
+// The calls, by the code byte that a record opens with.
+#[derive(Clone, Copy, PartialEq, Eq, Debug)]
+pub enum Code {
+    Admit = 1,
+    Rate = 2,
+    Period = 3,
+    Wait = 4,
+    Wake = 5,
+    Finish = 6,
+    Turn = 8,
+}
+
+impl From<Code> for u8 {
+    ghost from_gives = { λ code byte. byte ≡ byte_of code };
+
+    fn from(value: Code) -> u8 {
+        value as u8
+    }
+}
+
+impl TryFrom<u8> for Code {
+    type Error = StepFault;
+
+    ghost try_from_gives = { λ byte outcome. outcome ≡ code_in byte };
+
+    fn try_from(value: u8) -> Result<Code, StepFault> {
+        match value {
+            1 => Ok(Code::Admit),
+            2 => Ok(Code::Rate),
+            3 => Ok(Code::Period),
+            4 => Ok(Code::Wait),
+            5 => Ok(Code::Wake),
+            6 => Ok(Code::Finish),
+            8 => Ok(Code::Turn),
+            _ => Err(StepFault::UnknownCode),
+        }
+    }
+}
 
 // What a call record asks for.
 #[derive(Clone, Copy)]
@@ -16,135 +58,127 @@ pub enum Step {
     Turn { count: u32 },
 }
 
-// A record that ends the run: its code byte and the number of its fault.
-#[derive(Clone, Copy)]
+impl Step {
+    // The code that its record opens with.
+    pub fn code(self) -> Code
+        ensures { result ≡ code_of self }
+    {
+        match self {
+            Step::Admit { .. } => Code::Admit,
+            Step::Change { change, .. } => match change {
+                Change::Rate(_) => Code::Rate,
+                Change::Period(_) => Code::Period,
+                Change::Wait => Code::Wait,
+                Change::Wake => Code::Wake,
+                Change::Finish => Code::Finish,
+            },
+            Step::Turn { .. } => Code::Turn,
+        }
+    }
+}
+
+// What is wrong with a call record.
+#[derive(Clone, Copy, PartialEq, Eq, Debug)]
+pub enum StepFault {
+    // No call has the code byte.
+    UnknownCode,
+    // A number of the record is cut or malformed.
+    InField(RecordFault),
+}
+
+impl From<RecordFault> for StepFault {
+    ghost from_gives = { λ fault whole. whole ≡ InField fault };
+
+    fn from(value: RecordFault) -> StepFault {
+        StepFault::InField(value)
+    }
+}
+
+// The number that a fault is reported by.
+impl From<StepFault> for u8 {
+    ghost from_gives = { λ fault number. number ≡ number_of fault };
+
+    fn from(value: StepFault) -> u8 {
+        match value {
+            StepFault::UnknownCode => 3,
+            StepFault::InField(fault) => fault.told().number,
+        }
+    }
+}
+
+// A record that ends the run: its code byte and its fault.
+#[derive(Clone, Copy, PartialEq, Eq, Debug)]
 pub struct BadStep {
     pub code: u8,
-    pub number: u8,
+    pub why: StepFault,
 }
 
-// The code bytes of the calls.
-pub const ADMIT: u8 = 1;
-
-pub const RATE: u8 = 2;
-
-pub const PERIOD: u8 = 3;
-
-pub const WAIT: u8 = 4;
-
-pub const WAKE: u8 = 5;
-
-pub const FINISH: u8 = 6;
-
-pub const TURN: u8 = 8;
-
-// No call has this code byte.
-const UNKNOWN: u8 = 3;
-
-// A number of the call with the code byte `code`.
-fn argument<'a>(code: u8, rest: Rest<'a>) -> Result<(Field, Rest<'a>), BadStep>
+// So many numbers, and the offset just past them.
+fn read_numbers<const N: usize>(rest: Rest) -> Result<([u32; N], usize), RecordFault>
     requires { rest.place + length rest.bytes.now < 2 ^ 64 }
-    ensures value { argument_of result ≡ argument_in code (left_of rest.entry) }
-    ensures room { IfOk result (λ read. read.1.place + length read.1.bytes.now < 2 ^ 64) }
+    ensures { result ≡ numbers_in N (left_of rest.entry) }
 {
-    match read_field(rest) {
-        Ok(read) => Ok(read),
-        Err(fault) => Err(BadStep {
-            code,
-            number: fault.told().number,
-        }),
+    let mut rest = rest;
+    let mut numbers = [0; N];
+    for number in numbers.iter_mut() {
+        let (field, behind) = read_field(rest)?;
+        *number = field.value;
+        rest = behind;
     }
+    Ok((numbers, rest.place))
 }
 
-// One number of a call, and the offset just past it.
-fn read_one(code: u8, rest: Rest) -> Result<(u32, usize), BadStep>
+// A change that has no number of its own.
+fn read_change(change: Change, rest: Rest) -> Result<(Step, usize), RecordFault>
     requires { rest.place + length rest.bytes.now < 2 ^ 64 }
-    ensures { result ≡ one_in code (left_of rest.entry) }
+    ensures { result ≡ change_in change (left_of rest.entry) }
 {
-    let (first, rest) = argument(code, rest)?;
-    Ok((first.value, rest.place))
-}
-
-// Two numbers of a call, and the offset just past them.
-fn read_two(code: u8, rest: Rest) -> Result<(u32, u32, usize), BadStep>
-    requires { rest.place + length rest.bytes.now < 2 ^ 64 }
-    ensures { result ≡ two_in code (left_of rest.entry) }
-{
-    let (first, rest) = argument(code, rest)?;
-    let (second, rest) = argument(code, rest)?;
-    Ok((first.value, second.value, rest.place))
-}
-
-// Number, rate and period, and the offset just past them.
-fn read_admit(rest: Rest) -> Result<(Step, usize), BadStep>
-    requires { rest.place + length rest.bytes.now < 2 ^ 64 }
-    ensures { result ≡ admit_in (left_of rest.entry) }
-{
-    let (number, rest) = argument(ADMIT, rest)?;
-    let (rate, rest) = argument(ADMIT, rest)?;
-    let (period, rest) = argument(ADMIT, rest)?;
-    let asked = Reservation {
-        number: number.value,
-        rate: rate.value,
-        period: period.value,
-    };
-    Ok((Step::Admit { asked }, rest.place))
-}
-
-// A change to a value: rate or period.
-fn read_setting(code: u8, rest: Rest) -> Result<(Step, usize), BadStep>
-    requires { rest.place + length rest.bytes.now < 2 ^ 64 }
-    ensures { result ≡ setting_in code (left_of rest.entry) }
-{
-    let (number, value, end) = read_two(code, rest)?;
-    let change = if code == RATE {
-        Change::Rate(value)
-    } else {
-        Change::Period(value)
-    };
+    let ([number], end) = read_numbers::<1>(rest)?;
     Ok((Step::Change { number, change }, end))
 }
 
-// Wait, wake or finish.
-fn read_event(code: u8, rest: Rest) -> Result<(Step, usize), BadStep>
+// The numbers of a call.
+fn read_step(code: Code, rest: Rest) -> Result<(Step, usize), RecordFault>
     requires { rest.place + length rest.bytes.now < 2 ^ 64 }
-    ensures { result ≡ event_in code (left_of rest.entry) }
-{
-    let (number, end) = read_one(code, rest)?;
-    let change = match code {
-        WAIT => Change::Wait,
-        WAKE => Change::Wake,
-        _ => Change::Finish,
-    };
-    Ok((Step::Change { number, change }, end))
-}
-
-fn read_turn(rest: Rest) -> Result<(Step, usize), BadStep>
-    requires { rest.place + length rest.bytes.now < 2 ^ 64 }
-    ensures { result ≡ turn_in (left_of rest.entry) }
-{
-    let (count, end) = read_one(TURN, rest)?;
-    Ok((Step::Turn { count }, end))
-}
-
-// What stands behind a code byte; the code is judged before the numbers.
-fn read_call(code: u8, rest: Rest) -> Result<(Step, usize), BadStep>
-    requires { rest.place + length rest.bytes.now < 2 ^ 64 }
-    ensures { result ≡ call_in code (left_of rest.entry) 0 }
+    ensures { result ≡ step_in code (left_of rest.entry) }
 {
     match code {
-        ADMIT => read_admit(rest),
-        RATE => read_setting(RATE, rest),
-        PERIOD => read_setting(PERIOD, rest),
-        WAIT => read_event(WAIT, rest),
-        WAKE => read_event(WAKE, rest),
-        FINISH => read_event(FINISH, rest),
-        TURN => read_turn(rest),
-        _ => Err(BadStep {
-            code,
-            number: UNKNOWN,
-        }),
+        Code::Admit => {
+            let ([number, rate, period], end) = read_numbers::<3>(rest)?;
+            let asked = Reservation {
+                number,
+                rate,
+                period,
+            };
+            Ok((Step::Admit { asked }, end))
+        }
+        Code::Rate => {
+            let ([number, rate], end) = read_numbers::<2>(rest)?;
+            let change = Change::Rate(rate);
+            Ok((Step::Change { number, change }, end))
+        }
+        Code::Period => {
+            let ([number, period], end) = read_numbers::<2>(rest)?;
+            let change = Change::Period(period);
+            Ok((Step::Change { number, change }, end))
+        }
+        Code::Wait => read_change(Change::Wait, rest),
+        Code::Wake => read_change(Change::Wake, rest),
+        Code::Finish => read_change(Change::Finish, rest),
+        Code::Turn => {
+            let ([count], end) = read_numbers::<1>(rest)?;
+            Ok((Step::Turn { count }, end))
+        }
     }
+}
+
+// A code byte and what stands behind it; the code is judged before the numbers.
+fn read_record(byte: u8, rest: Rest) -> Result<(Step, usize), StepFault>
+    requires { rest.place + length rest.bytes.now < 2 ^ 64 }
+    ensures { result ≡ record_in byte (left_of rest.entry) }
+{
+    let code = Code::try_from(byte)?;
+    Ok(read_step(code, rest)?)
 }
 
 // The call record at an offset of the input, with the offset just past it, or none at the input's end.
@@ -154,13 +188,45 @@ pub fn step_at(input: &[u8], place: usize) -> Result<Option<(Step, usize)>, BadS
     if place > input.len() {
         return Ok(None);
     }
-    let [code, bytes @ ..] = &input[place..] else {
+    let [byte, bytes @ ..] = &input[place..] else {
         return Ok(None);
     };
     let rest = Rest {
         bytes,
         place: place + 1,
     };
-    let read = read_call(*code, rest)?;
-    Ok(Some(read))
+    match read_record(*byte, rest) {
+        Ok(read) => Ok(Some(read)),
+        Err(why) => Err(BadStep { code: *byte, why }),
+    }
+}
+
+// The call records from an offset of the input on. A bad one is the last.
+#[derive(Drop)]
+pub(crate) struct Records<'a> {
+    pub(crate) input: &'a [u8],
+    pub(crate) place: usize,
+}
+
+impl<'a> Iterator for Records<'a> {
+    type Item = Result<Step, BadStep>;
+
+    ghost next_gives = { λ s given t. Gives (script_from s.input.now s.place) given (script_from t.input.now t.place) };
+
+    ghost remaining = { λ s. at_most (length s.input.now - s.place) };
+
+    #[tactic(auto, using(crate::proofs::Advancing::goes_on, crate::proofs::Advancing::gives_step, crate::proofs::Advancing::gives_none, crate::proofs::Advancing::gives_bad, crate::proofs::Advancing::bad_inside))]
+    fn next(&mut self) -> Option<Result<Step, BadStep>> {
+        match step_at(self.input, self.place) {
+            Ok(Some((step, end))) => {
+                self.place = end;
+                Some(Ok(step))
+            }
+            Ok(None) => None,
+            Err(bad) => {
+                self.place = self.input.len();
+                Some(Err(bad))
+            }
+        }
+    }
 }

@@ -1,12 +1,16 @@
 // The rehearsal program: standard input to standard output, over the ready list and the tie order that the command line names.
 #![tactic(auto)]
 
+ghost use Rattle.std.specs.Prelude.{◌≡◌, IfOk, string_bytes, take};
+ghost use Rattle.rehearsal.specs.Rehearsals.{rehearsed};
+
 mod options;
 
 use heap::Heap;
 use options::{ListKind, Options, OrderKind, USAGE, parse};
-use order::ties::{ByNumber, ByRate};
+use order::ties::{ByNumber, ByRate, TieOrder};
 use rehearsal::play::{LONGEST_INPUT, rehearse};
+use std::alloc::Global;
 use std::io::Read;
 use std::process::ExitCode;
 use std::{env, fmt};
@@ -21,15 +25,26 @@ fn read_input(rt: &HostRuntime) -> anyhow::Result<Vec<u8>> {
     Ok(input)
 }
 
-fn lines_of(rt: &HostRuntime, options: Options, input: &[u8]) -> Result<String, fmt::Error> {
-    let heap = rt.alloc();
-    let list = options.list.unwrap_or(ListKind::Table);
-    let order = options.order.unwrap_or(OrderKind::Number);
-    match (list, order) {
-        (ListKind::Table, OrderKind::Number) => rehearse(heap, input, &mut Table::new(ByNumber)),
-        (ListKind::Table, OrderKind::Rate) => rehearse(heap, input, &mut Table::new(ByRate)),
-        (ListKind::Heap, OrderKind::Number) => rehearse(heap, input, &mut Heap::new(ByNumber)),
-        (ListKind::Heap, OrderKind::Rate) => rehearse(heap, input, &mut Heap::new(ByRate)),
+// What is printed in an order does not depend on the list.
+fn lines_over<O: TieOrder>(
+    heap: Global,
+    list: ListKind,
+    order: O,
+    input: &[u8],
+) -> Result<String, fmt::Error>
+    ensures { IfOk result (λ out. string_bytes out ≡ rehearsed O.TieOrder.before (take 65536 input.now)) }
+{
+    match list {
+        ListKind::Table => rehearse(heap, input, &mut Table::new(order)),
+        ListKind::Heap => rehearse(heap, input, &mut Heap::new(order)),
+    }
+}
+
+fn lines_of(heap: Global, options: Options, input: &[u8]) -> Result<String, fmt::Error> {
+    let list = options.list.unwrap_or_default();
+    match options.order.unwrap_or_default() {
+        OrderKind::Number => lines_over(heap, list, ByNumber, input),
+        OrderKind::Rate => lines_over(heap, list, ByRate, input),
     }
 }
 
@@ -44,7 +59,7 @@ fn read_options(rt: &HostRuntime) -> anyhow::Result<Option<Options>> {
 
 fn run(rt: &HostRuntime, options: Options) -> anyhow::Result<()> {
     let input = read_input(rt)?;
-    let lines = lines_of(rt, options, input.as_slice())?;
+    let lines = lines_of(rt.alloc(), options, input.as_slice())?;
     print!(rt; "{lines}")?;
     Ok(())
 }

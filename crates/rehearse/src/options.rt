@@ -1,19 +1,50 @@
 // What the command line asks for.
+use std::str::FromStr;
 
-#[derive(Clone, Copy, PartialEq, Eq, Debug)]
+#[derive(Clone, Copy, PartialEq, Eq, Debug, Default)]
 pub enum ListKind {
+    #[default]
     Table,
     Heap,
 }
 
-#[derive(Clone, Copy, PartialEq, Eq, Debug)]
+#[derive(Clone, Copy, PartialEq, Eq, Debug, Default)]
 pub enum OrderKind {
+    #[default]
     Number,
     Rate,
 }
 
+// A word that names no list, or no order.
+#[derive(Clone, Copy, PartialEq, Eq, Debug)]
+pub struct UnknownWord;
+
+impl FromStr for ListKind {
+    type Err = UnknownWord;
+
+    fn from_str(s: &str) -> Result<ListKind, UnknownWord> {
+        match s {
+            "table" => Ok(ListKind::Table),
+            "heap" => Ok(ListKind::Heap),
+            _ => Err(UnknownWord),
+        }
+    }
+}
+
+impl FromStr for OrderKind {
+    type Err = UnknownWord;
+
+    fn from_str(s: &str) -> Result<OrderKind, UnknownWord> {
+        match s {
+            "number" => Ok(OrderKind::Number),
+            "rate" => Ok(OrderKind::Rate),
+            _ => Err(UnknownWord),
+        }
+    }
+}
+
 // Which ready list and which tie order; none where nothing was said.
-#[derive(Clone, Copy)]
+#[derive(Clone, Copy, Default)]
 pub struct Options {
     pub list: Option<ListKind>,
     pub order: Option<OrderKind>,
@@ -21,52 +52,31 @@ pub struct Options {
 
 pub const USAGE: &str = "usage: rehearse [--list table|heap] [--order number|rate] < INPUT";
 
-fn list_kind(value: &str) -> Option<ListKind> {
-    if value == "table" {
-        Some(ListKind::Table)
-    } else if value == "heap" {
-        Some(ListKind::Heap)
-    } else {
-        None
+impl Options {
+    // One option and its value added to the others; none where it is unknown or stands twice.
+    fn with(self, flag: &str, value: &str) -> Option<Options> {
+        match flag {
+            "--list" if self.list.is_none() => Some(Options {
+                list: Some(value.parse().ok()?),
+                ..self
+            }),
+            "--order" if self.order.is_none() => Some(Options {
+                order: Some(value.parse().ok()?),
+                ..self
+            }),
+            _ => None,
+        }
     }
-}
-
-fn order_kind(value: &str) -> Option<OrderKind> {
-    if value == "number" {
-        Some(OrderKind::Number)
-    } else if value == "rate" {
-        Some(OrderKind::Rate)
-    } else {
-        None
-    }
-}
-
-// One option and its value added to the others; none where it is unknown or stands twice.
-fn with_option(options: Options, flag: &str, value: &str) -> Option<Options> {
-    let mut options = options;
-    if flag == "--list" && options.list.is_none() {
-        options.list = Some(list_kind(value)?);
-    } else if flag == "--order" && options.order.is_none() {
-        options.order = Some(order_kind(value)?);
-    } else {
-        return None;
-    }
-    Some(options)
 }
 
 // The options that the words of a command line give, or none where they are no such command line.
 pub(crate) fn parse(words: &[String]) -> Option<Options> {
-    let nothing = Options {
-        list: None,
-        order: None,
-    };
-    match words {
-        [] => Some(nothing),
-        [flag, value] => with_option(nothing, flag.as_str(), value.as_str()),
-        [flag, value, flag2, value2] => {
-            let first = with_option(nothing, flag.as_str(), value.as_str())?;
-            with_option(first, flag2.as_str(), value2.as_str())
-        }
-        _ => None,
+    let mut options = Options::default();
+    for pair in words.chunks(2) {
+        let [flag, value] = pair else {
+            return None;
+        };
+        options = options.with(flag.as_str(), value.as_str())?;
     }
+    Some(options)
 }

@@ -2,8 +2,7 @@
 #![tactic(auto)]
 
 use heap::Heap;
-use order::ties::{ByNumber, ByRate};
-use ready::ReadyList;
+use order::ties::{ByNumber, ByRate, TieOrder};
 use rehearsal::play::rehearse;
 use std::fs;
 use table::Table;
@@ -11,40 +10,37 @@ use table::Table;
 // How many rehearsals are stored, as data/00.in and so on, each with what it prints under both orders.
 const STORED: u32 = 69;
 
-// Whether a rehearsal over this list prints what is stored.
-fn agrees<L: ReadyList>(
-    rt: &HostRuntime,
-    input: &[u8],
-    stored: &[u8],
-    list: &mut L,
-) -> anyhow::Result<bool> {
-    let lines = rehearse(rt.alloc(), input, list)?;
-    Ok(lines.as_str().as_bytes() == stored)
-}
-
 fn stored(rt: &HostRuntime, number: u32, ending: &str) -> anyhow::Result<Vec<u8>> {
     let path = format!(in rt.alloc(); "{number:02}.{ending}")?;
     Ok(fs::read(rt, path.as_str())?)
 }
 
-// Replays one rehearsal four times.
+// Whether a rehearsal in this order prints what is stored, over both lists.
+fn agrees<O: TieOrder + Copy>(
+    rt: &HostRuntime,
+    input: &[u8],
+    stored: &[u8],
+    order: O,
+) -> anyhow::Result<bool> {
+    let table = rehearse(rt.alloc(), input, &mut Table::new(order))?;
+    let heap = rehearse(rt.alloc(), input, &mut Heap::new(order))?;
+    Ok(table.as_bytes() == stored && heap.as_bytes() == stored)
+}
+
+// Replays one rehearsal in both orders.
 fn replay(rt: &HostRuntime, number: u32) -> anyhow::Result<bool> {
     let input = stored(rt, number, "in")?;
     let by_number = stored(rt, number, "number")?;
     let by_rate = stored(rt, number, "rate")?;
-    let bytes = input.as_slice();
-    let a = agrees(rt, bytes, by_number.as_slice(), &mut Table::new(ByNumber))?;
-    let b = agrees(rt, bytes, by_rate.as_slice(), &mut Table::new(ByRate))?;
-    let c = agrees(rt, bytes, by_number.as_slice(), &mut Heap::new(ByNumber))?;
-    let d = agrees(rt, bytes, by_rate.as_slice(), &mut Heap::new(ByRate))?;
-    Ok(a && b && c && d)
+    Ok(agrees(rt, input.as_slice(), by_number.as_slice(), ByNumber)?
+        && agrees(rt, input.as_slice(), by_rate.as_slice(), ByRate)?)
 }
 
 fn run(rt: &HostRuntime) -> anyhow::Result<()> {
     let mut agreed = 0u32;
     for number in 0..STORED {
         if replay(rt, number)? {
-            agreed = agreed.saturating_add(1);
+            agreed += 1;
         } else {
             println!(rt; "{number:02} comes out otherwise")?;
         }

@@ -1,10 +1,7 @@
 // Rehearsals of the changes under way, and of ties, over both lists.
-use crate::edges::Case;
-use heap::Heap;
+use crate::plays::{Case, over_both};
 use order::ties::{ByNumber, ByRate};
-use rehearsal::play::rehearse;
 use std::test::Fail;
-use table::Table;
 
 // Worked out by hand from the rules.
 const CHANGES: [Case; 4] = [
@@ -33,10 +30,7 @@ const CHANGES: [Case; 4] = [
 #[test]
 fn changes_over_both_lists(rt: HostRuntime) -> Result<(), Fail> {
     for case in CHANGES.iter() {
-        let by_table = rehearse(rt.alloc(), case.input, &mut Table::new(ByNumber))?;
-        assert_eq!(rt; by_table.as_str(), case.lines);
-        let by_heap = rehearse(rt.alloc(), case.input, &mut Heap::new(ByNumber))?;
-        assert_eq!(rt; by_heap.as_str(), case.lines);
+        over_both(&rt, case.input, case.lines, ByNumber)?;
     }
     Ok(())
 }
@@ -50,13 +44,6 @@ const RATE_FIRST: &str = "0 0 ok 2\n1 8 run 2\n1 8 no 16\n";
 
 #[test]
 fn ties_tell_the_orders_apart(rt: HostRuntime) -> Result<(), Fail> {
-    let table_number = rehearse(rt.alloc(), TIED, &mut Table::new(ByNumber))?;
-    assert_eq!(rt; table_number.as_str(), NUMBER_FIRST);
-    let heap_number = rehearse(rt.alloc(), TIED, &mut Heap::new(ByNumber))?;
-    assert_eq!(rt; heap_number.as_str(), NUMBER_FIRST);
-    let table_rate = rehearse(rt.alloc(), TIED, &mut Table::new(ByRate))?;
-    assert_eq!(rt; table_rate.as_str(), RATE_FIRST);
-    let heap_rate = rehearse(rt.alloc(), TIED, &mut Heap::new(ByRate))?;
-    assert_eq!(rt; heap_rate.as_str(), RATE_FIRST);
-    Ok(())
+    over_both(&rt, TIED, NUMBER_FIRST, ByNumber)?;
+    over_both(&rt, TIED, RATE_FIRST, ByRate)
 }

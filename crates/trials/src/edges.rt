@@ -1,23 +1,6 @@
 // Short inputs at the edges: where each fault is told, which fault comes first, what a turn may last and who has it.
-use order::ties::ByNumber;
-use rehearsal::play::rehearse;
-use std::process::Abort;
+use crate::plays::{Case, over_table};
 use std::test::Fail;
-use table::Table;
-
-pub(crate) struct Case {
-    pub(crate) input: &'static [u8],
-    pub(crate) lines: &'static str,
-}
-
-// Each input's lines, by the searched table and the order by number.
-pub(crate) fn play_all(rt: &(impl Abort + AllocGlobal), cases: &[Case]) -> Result<(), Fail> {
-    for case in cases.iter() {
-        let lines = rehearse(rt.alloc(), case.input, &mut Table::new(ByNumber))?;
-        assert_eq!(rt; lines.as_str(), case.lines);
-    }
-    Ok(())
-}
 
 // Worked out by hand.
 const EDGES: [Case; 83] = [
@@ -368,5 +351,8 @@ const EDGES: [Case; 83] = [
 
 #[test]
 fn edges(rt: HostRuntime) -> Result<(), Fail> {
-    play_all(&rt, &EDGES)
+    for case in EDGES.iter() {
+        over_table(&rt, case.input, case.lines)?;
+    }
+    Ok(())
 }

@@ -10,5 +10,7 @@ mod edges;
 #[cfg(test)]
 mod long;
 #[cfg(test)]
+mod plays;
+#[cfg(test)]
 mod recorded;
 pub mod statements;

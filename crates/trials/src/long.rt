@@ -1,16 +1,7 @@
 // Long inputs, built in a loop: a full table, the clock's last tick, and the most that is read.
-use order::ties::ByNumber;
-use rehearsal::play::rehearse;
+use crate::plays::over_table;
 use std::alloc::{AllocError, Global};
-use std::process::Abort;
 use std::test::Fail;
-use table::Table;
-
-fn plays(rt: &impl Abort, heap: Global, input: &[u8], lines: &str) -> Result<(), Fail> {
-    let played = rehearse(heap, input, &mut Table::new(ByNumber))?;
-    assert!(rt; played.as_str() == lines);
-    Ok(())
-}
 
 // Adds the bytes to the input so many times.
 fn repeat(input: &mut Vec<u8>, bytes: &[u8], times: usize) -> Result<(), AllocError> {
@@ -41,7 +32,7 @@ fn full_table(rt: HostRuntime) -> Result<(), Fail> {
         write!(lines, "{number} 8 run {number}\n")?;
     }
     lines.push_str("64 8 no 16\n67 8 run 0\n68 8 run 1\n")?;
-    plays(&rt, rt.alloc(), input.as_slice(), lines.as_str())
+    over_table(&rt, input.as_slice(), lines.as_str())
 }
 
 // A 65th task has a number out of range, or one that is taken.
@@ -49,10 +40,10 @@ fn full_table(rt: HostRuntime) -> Result<(), Fail> {
 fn over_full_table(rt: HostRuntime) -> Result<(), Fail> {
     let mut unknown = full_sheet(rt.alloc(), b"\x86\x03")?;
     unknown.extend_from_slice(&[1, 65, 15, 67, 1, b'A'])?;
-    plays(&rt, rt.alloc(), unknown.as_slice(), "0 0 no 5 3 385\n")?;
+    over_table(&rt, unknown.as_slice(), "0 0 no 5 3 385\n")?;
     let mut taken = full_sheet(rt.alloc(), b"\x86\x03")?;
     taken.extend_from_slice(&[1, 64, 15, 67, 1, b'A'])?;
-    plays(&rt, rt.alloc(), taken.as_slice(), "0 0 no 6 3 385\n")
+    over_table(&rt, taken.as_slice(), "0 0 no 6 3 385\n")
 }
 
 // 4,096 turns of the longest count and one of 4,096 ticks come to the clock 2^40, where no turn begins.
@@ -69,7 +60,7 @@ fn last_tick(rt: HostRuntime) -> Result<(), Fail> {
     }
     lines.push_str("1099511623680 8 no 16\n1099511627776 8 run 0\n")?;
     lines.push_str("1099511627776 8 no 17\n1099511627776 8 no 17\n1099511627776 9 no 3\n")?;
-    plays(&rt, rt.alloc(), input.as_slice(), lines.as_str())
+    over_table(&rt, input.as_slice(), lines.as_str())
 }
 
 // 65,536 bytes are read and no more: a record or a sheet that goes on behind them is cut.
@@ -83,10 +74,10 @@ fn longest_input(rt: HostRuntime) -> Result<(), Fail> {
     for _ in 0..32_767 {
         lines.push_str("128 8 run 0\n")?;
     }
-    plays(&rt, rt.alloc(), whole.as_slice(), lines.as_str())?;
+    over_table(&rt, whole.as_slice(), lines.as_str())?;
     // A byte more is not read.
     whole.push(9)?;
-    plays(&rt, rt.alloc(), whole.as_slice(), lines.as_str())
+    over_table(&rt, whole.as_slice(), lines.as_str())
 }
 
 #[test]
@@ -100,7 +91,7 @@ fn cut_record(rt: HostRuntime) -> Result<(), Fail> {
         lines.push_str("0 8 run 0\n")?;
     }
     lines.push_str("0 8 no 1\n")?;
-    plays(&rt, rt.alloc(), input.as_slice(), lines.as_str())
+    over_table(&rt, input.as_slice(), lines.as_str())
 }
 
 // A sheet of notes that ends with the last byte that is read, and one that is a byte longer.
@@ -110,10 +101,10 @@ fn longest_sheet(rt: HostRuntime) -> Result<(), Fail> {
     fits.extend_from_slice(b"\xfd\xff\x03\x02\x01\xff")?;
     repeat(&mut fits, b"\x02\x00", 32_765)?;
     assert!(rt; fits.len() == 65_536);
-    plays(&rt, rt.alloc(), fits.as_slice(), "0 0 ok 0\n")?;
+    over_table(&rt, fits.as_slice(), "0 0 ok 0\n")?;
     let mut longer = Vec::new(rt.alloc());
     longer.extend_from_slice(b"\xfe\xff\x03")?;
     repeat(&mut longer, b"\x02\x00", 32_767)?;
     assert!(rt; longer.len() == 65_537);
-    plays(&rt, rt.alloc(), longer.as_slice(), "0 0 no 1 1 0\n")
+    over_table(&rt, longer.as_slice(), "0 0 no 1 1 0\n")
 }

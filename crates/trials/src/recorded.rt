@@ -1,5 +1,5 @@
 // Inputs with the lines that two independent readings of the rules agreed on, those with turns alone.
-use crate::edges::{Case, play_all};
+use crate::plays::{Case, over_table};
 use std::test::Fail;
 
 // The order is by number.
@@ -100,5 +100,8 @@ const RECORDED: [Case; 23] = [
 
 #[test]
 fn recorded(rt: HostRuntime) -> Result<(), Fail> {
-    play_all(&rt, &RECORDED)
+    for case in RECORDED.iter() {
+        over_table(&rt, case.input, case.lines)?;
+    }
+    Ok(())
 }

@@ -2,16 +2,10 @@
 ghost use Rattle.std.specs.Prelude.{◌≡◌, length};
 ghost use Rattle.trials.specs.Edges.{AllHold, cases};
 
-fn how_many() -> usize
-    ensures { result ≡ length cases }
-{
-    10
-}
-
 // How many cases the table has; the statement says that they all hold.
 pub fn edge_cases() -> usize
     ensures count { result ≡ length cases }
     ensures hold { AllHold cases }
 {
-    how_many()
+    10
 }

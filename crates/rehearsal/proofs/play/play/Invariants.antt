@@ -1,16 +1,16 @@
-use Rattle.std.proofs.Common.{◌≡◌, ◌-◌, ◌++◌, length, string_bytes}
+use Rattle.std.proofs.Common.{◌≡◌, ◌++◌, Ok, string_bytes}
 use Rattle.controller.specs.Tied.{Tied}
 use Rattle.rehearsal.proofs.play.play.Given as goal
+use Rattle.rehearsal.specs.Lines.{line_of}
 use Rattle.rehearsal.specs.Rehearsals.{lines_of}
-use Rattle.rehearsal.specs.Scripts.{step_at}
-use Rattle.sheet.specs.Readings.{reading_from}
+use Rattle.rehearsal.specs.Scripts.{script_from}
+use Rattle.rehearsal.specs.declared.lines.Accepted.TheVariants.{Sheet}
 
 -- what is written and what is still to come are the whole
 abbrev pub invariant-loop-found : goal.invariant-loop-found
 invariant-loop-found g l =
-    (string_bytes l.out ++ lines_of g.L.Order.TieOrder.before l.rest.clock l.memory.slots (reading_from step_at l.input l.place)
-    ≡ string_bytes l.initial.out ++ lines_of g.L.Order.TieOrder.before l.initial.rest.clock l.initial.memory.slots (reading_from step_at l.input l.initial.place))
+    (string_bytes l.out ++ lines_of g.L.Order.TieOrder.before l.rest.clock l.memory.slots (script_from l.found-iterator.input.now l.found-iterator.place)
+    ≡ string_bytes l.fn.out ++ (line_of 0 0 (Ok (Sheet l.fn.tasks)) ++ lines_of g.L.Order.TieOrder.before l.fn.first.clock l.fn.memory.slots (script_from l.fn.records.input.now l.fn.records.place)))
     × Tied l.rest.clock l.memory.slots (g.L.ReadyList.held l.list) (g.L.ReadyList.ok l.list)
-
-abbrev pub decreases-loop-found : goal.decreases-loop-found
-decreases-loop-found g l = length l.input - l.place
+    × (goal.iterator-loop-found g).can_next l.found-iterator
+    × (goal.iterator-loop-found g).is_finite l.found-iterator

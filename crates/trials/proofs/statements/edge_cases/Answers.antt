@@ -1,5 +1,5 @@
 use Rattle.trials.proofs.Computed.{all_hold}
 use Rattle.trials.proofs.statements.edge_cases.Goals as goal
 
-pub returns : goal.returns
-returns c = record { count = c.how_many.ensures; hold = all_hold }
+pub returns-clause-hold : goal.returns-clause-hold
+returns-clause-hold c = all_hold
