@@ -1,5 +1,5 @@
 -- Every call keeps the tasks feasible, and at a deadline nothing is left of a ready job.
-use Rattle.std.proofs.Common.{◌≡◌, ℕ, zero, suc, ◌+◌, ◌-◌, ◌*◌, ◌^◌, ◌<◌, ◌≤◌, Bool, true, false, ltb, [], ◌∷◌, map, length, get_or, set, replicate, Some, None, Ok, Err, sum_by, Option, Result, sym, refl, ap, ◌∙◌, subst, mul-zero, arith, length-set}
+use Rattle.std.proofs.Common.{◌≡◌, ℕ, ◌+◌, ◌-◌, ◌^◌, ◌<◌, ◌≤◌, Bool, true, false, [], ◌∷◌, length, get_or, set, Some, None, Ok, Err, sum_by, Option, Result, sym, refl, ap, subst, arith, length-set}
 use Rattle.controller.proofs.Settles.{charge_all, in_room, pass_all, runner}
 use Rattle.controller.proofs.Changing.{changed_kept, same_place, there}
 use Rattle.controller.specs.Admitting.{admission_to, is_taken, with_task}
@@ -23,23 +23,19 @@ use Rattle.ready.specs.Held.{Held, Slotted, first_of}
 use Rattle.rules.proofs.Admitting.{admissible, unless_ok}
 use Rattle.rules.proofs.Changing.{period_fits, rate_fits}
 use Rattle.rules.specs.Admission.{admitted, why_not_admitted}
-use Rattle.rules.specs.Jobs.{charged, due_at}
+use Rattle.rules.specs.Jobs.{charged}
 use Rattle.rules.specs.declared.admission.Reservation.{Reservation}
 use Rattle.rules.specs.Changes.{changed, why_not_period, why_not_rate, with_period, with_rate}
-use Rattle.rules.specs.Phases.{stepped}
 use Rattle.rules.specs.Sound.{Sound}
 use Rattle.rules.specs.Tasks.{is_ready}
 use Rattle.rules.specs.Withdrawals.{withdrawn}
 use Rattle.rules.specs.declared.changes.Change.{Change}
-use Rattle.rules.specs.declared.changes.Change.TheVariants.{Finish as finish, Period as to_period, Rate as to_rate, Wait as wait, Wake as wake}
-use Rattle.rules.specs.declared.phases.Event.TheVariants.{Wait}
-use Rattle.rules.specs.declared.phases.Phase.{Phase}
-use Rattle.rules.specs.declared.phases.Phase.TheVariants.{Finished, Ready, Waiting}
+use Rattle.rules.specs.declared.changes.Change.TheVariants.{Period as to_period, Rate as to_rate}
 use Rattle.rules.specs.declared.refusals.Refusal.{Refusal}
 use Rattle.rules.specs.declared.tasks.Task.{Task}
 use Rattle.std.proofs.lemmas.List.Folds.{sum_by-replicate}
 use Rattle.std.proofs.lemmas.List.Sums.{get_or-le-sum_by, sum_by-cons}
-use Rattle.std.proofs.lemmas.Bool.{cond-false, le-ltb, true≢false}
+use Rattle.std.proofs.lemmas.Bool.{le-ltb}
 use Rattle.std.proofs.lemmas.Bool.Decides.{nat_tests}
 
 -- a change that is accepted makes nothing worse

@@ -1,5 +1,5 @@
 -- Every call keeps the promise: the account goes along with the controller, and what it reads at each deadline is paid.
-use Rattle.std.proofs.Common.{◌≡◌, ℕ, zero, suc, ◌+◌, ◌-◌, ◌^◌, ◌<◌, ◌≤◌, Bool, true, false, cond, eqb, ltb, List, [], ◌∷◌, map, length, get_or, set, replicate, Some, None, Ok, Err, Option, Result, sym, refl, ap, ◌∙◌, subst, arith}
+use Rattle.std.proofs.Common.{◌≡◌, ℕ, ◌+◌, ◌-◌, ◌^◌, ◌<◌, ◌≤◌, Bool, true, false, cond, eqb, ltb, List, [], ◌∷◌, map, length, get_or, set, Some, None, Ok, Err, Option, Result, sym, refl, ap, ◌∙◌, subst, arith}
 use lib.ListN.{length-map}
 use Rattle.calls.specs.Answering.{Answer, State, after, answer_to, answers_to, at_rest, in_turn, rest_answer, rest_next, start, turn_answer, turn_at, turn_next}
 use Rattle.calls.specs.Asking.{Asked, admit, begin, change, make, settle, withdraw}

@@ -1,5 +1,5 @@
 -- The tasks that a sheet makes: tied, feasible, and with nothing run yet.
-use Rattle.std.proofs.Common.{◌≡◌, ℕ, zero, suc, ◌+◌, ◌-◌, List, set, replicate, Some, None, Ok, Err, Option, Result, refl, subst, arith}
+use Rattle.std.proofs.Common.{◌≡◌, ℕ, zero, suc, ◌+◌, ◌-◌, List, set, replicate, Some, None, Ok, Err, Option, Result, refl, arith}
 use Rattle.controller.specs.Admitting.{admission_to, is_taken}
 use Rattle.controller.specs.Making.{enrolled, joined, made, made_tasks, reservation}
 use Rattle.controller.specs.Tasks.{Tasks, no_tasks, rates}
