@@ -36,7 +36,7 @@ use Rattle.rules.proofs.Admitting.{unless_ok}
 use Rattle.rules.specs.Admission.{admitted, why_not_admitted}
 use Rattle.rules.proofs.Changing.{changed_split}
 use Rattle.rules.specs.Changes.{becomes, changed, why_not_changed}
-use Rattle.rules.specs.Jobs.{Chargeable, due_at}
+use Rattle.rules.specs.Jobs.{Chargeable}
 use Rattle.rules.specs.Tasks.{entry_of}
 use Rattle.rules.specs.Withdrawals.{goes_at_once, marked, why_not_withdrawn, withdrawn, withdrawn_slot}
 use Rattle.rules.specs.declared.admission.Reservation.{Reservation}
@@ -46,7 +46,7 @@ use Rattle.rules.specs.declared.refusals.Refusal.TheVariants.{ClockAtEnd, CountT
 use Rattle.rules.specs.declared.tasks.Task.{Task}
 use Rattle.std.proofs.ByRecursion.{All-from_get_or, All-get_or, All-map, All-set, All-weaker}
 use Rattle.std.proofs.lemmas.List.{get_or-map, map-set}
-use Rattle.std.proofs.lemmas.Bool.{cond-false, eqb-false, le-ltb, ltb-false}
+use Rattle.std.proofs.lemmas.Bool.{eqb-false, le-ltb, ltb-false}
 use Rattle.std.proofs.lemmas.Bool.Decides.{nat_tests}
 use Rattle.std.specs.List.{AllByRecursion}
 use Rattle.std.specs.Result.{result_map_both}
@@ -250,10 +250,10 @@ all_coming T ledgers even passed feasible = All-from_get_or (ComingSlot T) ledge
     one i lt None is = tt
     one i lt (Some a) is =
         let lt' : i < length (seen ledgers) = omega (arith, length-map ledgers (in_slot view)) in
-        let task : get_or (seen ledgers) i None ≡ Some (view a) = get_or-map (in_slot view) ledgers i None None lt ∙ ap (in_slot view) is in
+        let task : get_or (seen ledgers) i None ≡ Some (view a) = rw (get_or-map (in_slot view) ledgers i None None lt, is) in
         record {
-          even = subst (EvenSlot T) is (All-get_or (EvenSlot T) ledgers i None lt even);
-          coming = (subst (PassedSlot T) task (All-get_or (PassedSlot T) (seen ledgers) i None lt' passed)).coming;
+          even = rw is at (All-get_or (EvenSlot T) ledgers i None lt even);
+          coming = (rw task at (All-get_or (PassedSlot T) (seen ledgers) i None lt' passed)).coming;
           ready = λ came ready. paid_in_full T (seen ledgers) feasible i (view a) lt' task came ready;
         }
 
@@ -286,33 +286,28 @@ module _ (before : Entry → Entry → Bool) (laws : Lawful before) (turn : Turn
 
     seen_ticked : seen ticked ≡ charged_in turn.runs c (seen ledgers)
     seen_ticked =
-        view-given turn.runs c (map (in_slot (passing c)) ledgers) (in_ledgers c turn.runs (map (in_slot (passing c)) ledgers) (seen ledgers) many runs') ∙ ap (charged_in turn.runs c) (view-passing c ledgers)
+        rw (← view-passing c ledgers) (view-given turn.runs c (map (in_slot (passing c)) ledgers) (in_ledgers c turn.runs (map (in_slot (passing c)) ledgers) (seen ledgers) many runs'))
 
     coming : AllByRecursion (ComingSlot T) ticked
     coming =
         all_coming T ticked
-        (given_even T c turn.runs (map (in_slot (passing c)) ledgers) many (subst (RunsIn turn.runs c) (sym (view-passing c ledgers)) runs') (passing_even turn.start c ledgers even passed))
-        (subst (AllByRecursion (PassedSlot T)) (sym seen_ticked) (charge_all T c turn.runs (seen ledgers) opened'.rest.mirror.many runs' passed))
-        (subst (Feasible T) (sym seen_ticked) (charged_feasible before laws turn (seen ledgers) (map entry_of (seen ledgers)) (mirror_slotted (seen ledgers) opened'.rest.mirror) opened' c few good.feasible))
+        (given_even T c turn.runs (map (in_slot (passing c)) ledgers) many (rw (view-passing c ledgers) runs') (passing_even turn.start c ledgers even passed))
+        (rw seen_ticked (charge_all T c turn.runs (seen ledgers) opened'.rest.mirror.many runs' passed))
+        (rw seen_ticked (charged_feasible before laws turn (seen ledgers) (map entry_of (seen ledgers)) (mirror_slotted (seen ledgers) opened'.rest.mirror) opened' c few good.feasible))
 
     -- the count is what the clock has moved by
     moved_by : c ≡ T - turn.start
     moved_by = omega arith
 
-    abbrev Read : ℕ → Ledgers
-    Read n = map (in_slot (due T)) (given_in turn.runs n (map (in_slot (passing n)) ledgers))
-
     settled_step : Step before in_turn_in (settle c) (Ok (Settled T)) (at_rest T (settled_tasks turn c (seen ledgers)))
     settled_step =
         record {
           turn = tt;
-          paid = subst (λ n. AllByRecursion (PaidAt T) (Read n)) moved_by (All-map (PaidAt T) (in_slot (due T)) ticked (All-weaker (ComingSlot T) (λ x. PaidAt T (in_slot (due T) x)) (paid_due T) ticked coming));
-          goes = subst (λ n. at_rest T (seen (map (follows T) (Read n))) ≡ at_rest T (settled_tasks turn c (seen ledgers))) moved_by
-              (ap (at_rest T) (view-due T ticked
-              ∙ (ap (map (due_at T)) seen_ticked ∙ sym (cond-false (ltb turn.length c) (seen ledgers) (map (due_at T) (charged_in turn.runs c (seen ledgers))) (le-ltb turn.length c few)))));
+          paid = rw (← moved_by) (All-map (PaidAt T) (in_slot (due T)) ticked (All-weaker (ComingSlot T) (λ x. PaidAt T (in_slot (due T) x)) (paid_due T) ticked coming));
+          goes = rw (← moved_by, view-due T ticked, seen_ticked, le-ltb turn.length c few);
           good = good_settled before laws turn (seen ledgers) opened' good.feasible c few;
-          even = subst (λ n. AllByRecursion (EvenSlot T) (map (follows T) (Read n))) moved_by
-              (All-map (EvenSlot T) (follows T) (Read c) (All-map (λ y. EvenSlot T (follows T y)) (in_slot (due T)) ticked (All-weaker (ComingSlot T) (λ x. EvenSlot T (follows T (in_slot (due T) x))) (even_due T) ticked coming)));
+          even = rw (← moved_by)
+              (All-map (EvenSlot T) (follows T) (map (in_slot (due T)) ticked) (All-map (λ y. EvenSlot T (follows T y)) (in_slot (due T)) ticked (All-weaker (ComingSlot T) (λ x. EvenSlot T (follows T (in_slot (due T) x))) (even_due T) ticked coming)));
           open' = tt;
         }
 
@@ -341,8 +336,7 @@ module _ (before : Entry → Entry → Bool) (laws : Lawful before) where
       let r = answer_to before (state_in a) q in
       let step = any_step a.clock a.ledgers a.turn st q in (
         record { right = refl; turn = step.turn; paid = step.paid },
-        subst (λ s. Promise before (moved q r a) later (written_over (answers_to before s later) places)) step.goes
-            (promised (moved q r a) (goes_on before a q r (after before (state_in a) q) step) later places),
+        rw (← step.goes) (promised (moved q r a) (goes_on before a q r (after before (state_in a) q) step) later places),
       )
 
   fresh_stands : Standing before fresh
