@@ -2,7 +2,7 @@
 // Shows how state, task memory and ready list are kept together from call to call; README explains it.
 #![tactic(auto)]
 
-ghost use Rattle.controller.specs.Tied.{Open, Tied};
+ghost use Rattle.controller.specs.Tied.{OpenOn, TiedTo};
 
 use controller::make::make;
 use controller::memory::TaskMemory;
@@ -23,8 +23,8 @@ fn run(turn: Turn) -> u64 {
 
 // Runs an open turn and settles it. A count above its length leaves it open: it is then given up.
 fn run_turn<L: ReadyList>(opened: OpenTurn, memory: &mut TaskMemory, list: &mut L) -> Resting
-    requires { Open L.Order.TieOrder.before opened.turn memory.old.slots (L.ReadyList.held list.old) (L.ReadyList.ok list.old) }
-    ensures { Tied result.clock memory.new.slots (L.ReadyList.held list.new) (L.ReadyList.ok list.new) }
+    requires { OpenOn L.ReadyList L.Order.TieOrder.before opened memory.old list.old }
+    ensures { TiedTo L.ReadyList result memory.new list.new }
 {
     let count = run(opened.turn());
     match opened.settle(count, memory, list) {
@@ -35,8 +35,8 @@ fn run_turn<L: ReadyList>(opened: OpenTurn, memory: &mut TaskMemory, list: &mut 
 
 // Begins a turn and runs it. At the last tick no turn begins.
 fn one_turn<L: ReadyList>(rest: Resting, memory: &mut TaskMemory, list: &mut L) -> Resting
-    requires { Tied rest.clock memory.old.slots (L.ReadyList.held list.old) (L.ReadyList.ok list.old) }
-    ensures { Tied result.clock memory.new.slots (L.ReadyList.held list.new) (L.ReadyList.ok list.new) }
+    requires { TiedTo L.ReadyList rest memory.old list.old }
+    ensures { TiedTo L.ReadyList result memory.new list.new }
 {
     match rest.begin(memory, list) {
         Ok(opened) => run_turn(opened, memory, list),
@@ -51,8 +51,8 @@ fn run_turns<L: ReadyList>(
     memory: &mut TaskMemory,
     list: &mut L,
 ) -> Resting
-    requires { Tied first.clock memory.old.slots (L.ReadyList.held list.old) (L.ReadyList.ok list.old) }
-    ensures { Tied result.clock memory.new.slots (L.ReadyList.held list.new) (L.ReadyList.ok list.new) }
+    requires { TiedTo L.ReadyList first memory.old list.old }
+    ensures { TiedTo L.ReadyList result memory.new list.new }
 {
     let mut rest = first;
     for _ in 0..count {

@@ -1,5 +1,5 @@
 -- Call records may be read one after another: each ends behind its code byte, within the input.
-use Rattle.std.proofs.Common.{◌≡◌, ℕ, zero, suc, ◌+◌, ◌<◌, ◌≤◌, List, [], ◌∷◌, length, drop, IfOk, Some, None, Ok, Err, Option, Result, sym, refl, subst, ⊎_elim, arith, length-drop}
+use Rattle.std.proofs.Common.{◌≡◌, ℕ, zero, suc, ◌+◌, ◌<◌, ◌≤◌, List, [], ◌∷◌, length, get_or, drop, IfOk, Some, None, Ok, Err, Option, Result, sym, refl, ap, subst, ⊎_elim, arith, length-drop}
 use Rattle.rehearsal.specs.Codes.{code_in}
 use Rattle.rehearsal.specs.Scripts.{Gives, Script, blamed, call_in, in_field, numbers_in, record_in, script_from, step_at, step_in}
 use Rattle.rehearsal.specs.declared.scripts.BadStep.{BadStep}
@@ -7,7 +7,7 @@ use Rattle.rehearsal.specs.declared.scripts.Code.{Code}
 use Rattle.rehearsal.specs.declared.scripts.Code.TheVariants.{Admit, Finish, Period, Rate, Turn, Wait, Wake}
 use Rattle.rehearsal.specs.declared.scripts.StepFault.{StepFault}
 use Rattle.rehearsal.specs.declared.scripts.Step.{Step}
-use Rattle.sheet.proofs.Bodies.{part_none}
+use Rattle.sheet.proofs.Bodies.{behind, from, part_none, part_split, whole}
 use Rattle.sheet.proofs.Ends.{field_onward, then}
 use Rattle.sheet.proofs.Readings.{Advances, reading_entry, reading_fault, reading_none}
 use Rattle.sheet.specs.Readings.{Left, and_then, opened, part_at}
@@ -15,6 +15,13 @@ use Rattle.sheet.specs.Records.{field_in}
 use Rattle.sheet.specs.declared.records.RecordFault.{RecordFault}
 use Rattle.std.proofs.lemmas.Result.{IfOk-at_ok}
 use Rattle.std.proofs.lemmas.Bool.{cases_lt}
+
+-- a record that was read where the input goes on is the one there
+pub step_found : (input : List ℕ) (place : ℕ) (part : List ℕ) (read : Result (Step × ℕ) StepFault) → part ≡ from input place → 0 < length part → read ≡ record_in (get_or part 0 0) (behind part place)
+    → whole call_in (blamed (get_or part 0 0) read) ≡ step_at input place
+step_found input place part read here some is =
+    let P : List ℕ → Type 0 = λ p. 0 < length p → read ≡ record_in (get_or p 0 0) (behind p place) → whole call_in (blamed (get_or p 0 0) read) ≡ step_at input place in
+    subst P (sym here) (λ s e. part_split call_in input place (blamed _ read) s (ap (blamed _) e)) some is
 
 -- a call ends in what is left
 abbrev Within : Left → ℕ → Type 0

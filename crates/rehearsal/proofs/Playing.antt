@@ -12,10 +12,8 @@ said_accepted (Ok a) = refl
 said_accepted (Err why) = refl
 
 -- the first bytes, or all of them where there are no more
-pub front_made : (most : ℕ) (input : Bor (List ℕ)) (found : Option (Bor (List ℕ))) (front : Bor (List ℕ)) → IsGetRangeResult input.now 0 most found → front ≡ unwrap_or found input → front.now ≡ take most input.now
-front_made most input None front h e =
+pub front_made : (limit : ℕ) (input : Bor (List ℕ)) (found : Option (Bor (List ℕ))) (front : Bor (List ℕ)) → IsGetRangeResult input.now 0 limit found → front ≡ unwrap_or found input → (most : ℕ) → limit - 0 ≡ most → front.now ≡ take most input.now
+front_made limit input None front h e most is =
     let short : length input.now ≤ most = ⊎_elim (λ k. omega arith) (λ k. omega arith) h.0 in
     ap (λ b. b.now) e ∙ sym (take_all most input.now short)
-front_made most input (Some part) front h e =
-    let all : most - 0 ≡ most = omega arith in
-    ap (λ b. b.now) e ∙ (h.0.2 ∙ ap (λ n. take n input.now) all)
+front_made limit input (Some part) front h e most is = ap (λ b. b.now) e ∙ (h.0.2 ∙ ap (λ n. take n input.now) is)

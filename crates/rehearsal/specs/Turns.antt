@@ -3,7 +3,6 @@ use Rattle.std.specs.Prelude.{ℕ, ◌+◌, ◌^◌, Bool, cond, map, Ok, Err, �
 use Rattle.controller.specs.Settling.{settled_tasks}
 use Rattle.controller.specs.Tasks.{Tasks}
 use Rattle.controller.specs.Turns.{begun}
-use Rattle.controller.specs.declared.states.Resting.{Resting}
 use Rattle.controller.specs.declared.states.Turn.{Turn}
 use Rattle.order.specs.declared.entries.Entry.{Entry}
 use Rattle.ready.specs.Held.{first_of}
@@ -19,8 +18,8 @@ pub record Done : Type 0 where
   pub tasks : Tasks
   pub outcome : Outcome
 
-abbrev pub done_by : Resting → Tasks → Outcome → Done
-done_by rest tasks outcome = record { clock = rest.clock; tasks = tasks; outcome = outcome }
+abbrev pub done_by : ℕ → Tasks → Outcome → Done
+done_by T tasks outcome = record { clock = T; tasks = tasks; outcome = outcome }
 
 -- the turn that the tasks ask for at T
 abbrev pub turn_at : (Entry → Entry → Bool) → ℕ → Tasks → Turn

@@ -63,10 +63,10 @@ impl fmt::Display for Refused {
                     number,
                     layer,
                     place,
-                } = fault.told();
+                } = Told::from(*fault);
                 write!(f, "no {number} {layer} {place}")
             }
-            Refused::ByRule(why) => write!(f, "no {}", why.code()),
+            Refused::ByRule(why) => write!(f, "no {}", u8::from(*why)),
             Refused::BadRecord(fault) => write!(f, "no {}", u8::from(*fault)),
         }
     }

@@ -1,7 +1,7 @@
 // A whole rehearsal on bytes.
 ghost use Rattle.std.specs.Prelude.{◌≡◌, ◌++◌, take, IfOk, string_bytes, OnOk};
 ghost use Rattle.controller.specs.Making.{made as made_of};
-ghost use Rattle.controller.specs.Tied.{Tied};
+ghost use Rattle.controller.specs.Tied.{TiedTo};
 ghost use Rattle.rehearsal.specs.Opened.{opening_of};
 ghost use Rattle.rehearsal.specs.Lines.{line_of};
 ghost use Rattle.rehearsal.specs.Rehearsals.{lines_of, opening, performed, played, record_code, recorded, rehearsed, said_of};
@@ -9,7 +9,7 @@ ghost use Rattle.rehearsal.specs.Scripts.{script_from};
 ghost use Rattle.rehearsal.specs.Turns.{done_by};
 
 use crate::lines::{Accepted, Line, Outcome, Refused, write_line};
-use crate::scripts::{BadStep, Records, Step};
+use crate::scripts::{BadStep, Calls, Step};
 use crate::turns::take_turn;
 use controller::make::make;
 use controller::memory::TaskMemory;
@@ -51,9 +51,9 @@ fn perform<L: ReadyList>(
     memory: &mut TaskMemory,
     list: &mut L,
 ) -> (Resting, Outcome)
-    requires { Tied rest.clock memory.old.slots (L.ReadyList.held list.old) (L.ReadyList.ok list.old) }
-    ensures done { done_by result.0 memory.new.slots result.1 ≡ performed L.Order.TieOrder.before rest.clock memory.old.slots step }
-    ensures tied { Tied result.0.clock memory.new.slots (L.ReadyList.held list.new) (L.ReadyList.ok list.new) }
+    requires { TiedTo L.ReadyList rest memory.old list.old }
+    ensures done { done_by result.0 memory.new result.1 ≡ performed L.Order.TieOrder.before rest memory.old step }
+    ensures tied { TiedTo L.ReadyList result.0 memory.new list.new }
 {
     match step {
         Step::Admit { asked } => {
@@ -75,11 +75,11 @@ fn play_record<L: ReadyList>(
     memory: &mut TaskMemory,
     list: &mut L,
 ) -> (Resting, Line)
-    requires { Tied rest.clock memory.old.slots (L.ReadyList.held list.old) (L.ReadyList.ok list.old) }
-    ensures done { done_by result.0 memory.new.slots result.1.outcome ≡ recorded L.Order.TieOrder.before rest.clock memory.old.slots found }
+    requires { TiedTo L.ReadyList rest memory.old list.old }
+    ensures done { done_by result.0 memory.new result.1.outcome ≡ recorded L.Order.TieOrder.before rest memory.old found }
     ensures code { result.1.code ≡ record_code found }
-    ensures clock { result.1.clock ≡ result.0.clock }
-    ensures tied { Tied result.0.clock memory.new.slots (L.ReadyList.held list.new) (L.ReadyList.ok list.new) }
+    ensures clock { result.1.clock ≡ result.0 }
+    ensures tied { TiedTo L.ReadyList result.0 memory.new list.new }
 {
     let (rest, code, outcome) = match found {
         Ok(step) => {
@@ -100,19 +100,19 @@ fn play_record<L: ReadyList>(
 fn play<L: ReadyList>(
     first: Resting,
     tasks: u32,
-    records: Records,
+    calls: Calls,
     memory: &mut TaskMemory,
     list: &mut L,
     out: &mut String,
 ) -> (Resting, fmt::Result)
-    requires { Tied first.clock memory.old.slots (L.ReadyList.held list.old) (L.ReadyList.ok list.old) }
-    ensures { OnOk result.1 (string_bytes out.new ≡ string_bytes out.old ++ (line_of 0 0 (Ok (Accepted.Sheet tasks)) ++ lines_of L.Order.TieOrder.before first.clock memory.old.slots (script_from records.entry.input.now records.entry.place))) }
+    requires { TiedTo L.ReadyList first memory.old list.old }
+    ensures { OnOk result.1 (string_bytes out.new ≡ string_bytes out.old ++ (line_of 0 0 (Ok (Accepted.Sheet tasks)) ++ lines_of L.Order.TieOrder.before first memory.old (script_from calls.entry.input.now calls.entry.place))) }
 {
     if let Err(error) = write_line(out, Line::of_sheet(Ok(Accepted::Sheet(tasks)))) {
         return (first, Err(error));
     }
     let mut rest = first;
-    for found in records {
+    for found in calls {
         let (next, line) = play_record(rest, found, memory, list);
         rest = next;
         if let Err(error) = write_line(out, line) {
@@ -136,8 +136,8 @@ fn play_sheet<L: ReadyList>(
     let (rest, made) = make(sheet, &mut memory, list);
     let (rest, played) = match made {
         Ok(tasks) => {
-            let records = Records { input, place };
-            play(rest, tasks, records, &mut memory, list, out)
+            let calls = Calls { input, place };
+            play(rest, tasks, calls, &mut memory, list, out)
         }
         Err(fault) => {
             let line = Line::of_sheet(Err(Refused::BadSheet(fault)));

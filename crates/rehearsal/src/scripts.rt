@@ -1,6 +1,6 @@
 // The call records of a rehearsal: a code byte and its numbers.
 ghost use Rattle.std.specs.Iterator.{at_most};
-ghost use Rattle.std.specs.Prelude.{◌≡◌, ◌+◌, ◌-◌, ◌^◌, ◌<◌, length};
+ghost use Rattle.std.specs.Prelude.{◌≡◌, ◌-◌, length};
 ghost use Rattle.rehearsal.specs.Codes.{byte_of, code_in};
 ghost use Rattle.rehearsal.specs.declared.scripts.StepFault.TheVariants.{InField};
 ghost use Rattle.rehearsal.specs.Scripts.{Gives, change_in, code_of, number_of, numbers_in, record_in, script_from, step_at, step_in};
@@ -8,7 +8,7 @@ ghost use Rattle.sheet.specs.Values.{left_of};
 
 use rules::admission::Reservation;
 use rules::changes::Change;
-use sheet::records::{RecordFault, Rest, read_field};
+use sheet::records::{RecordFault, Rest, Told, read_field};
 
 // The calls, by the code byte that a record opens with.
 #[derive(Clone, Copy, PartialEq, Eq, Debug)]
@@ -101,7 +101,7 @@ impl From<StepFault> for u8 {
     fn from(value: StepFault) -> u8 {
         match value {
             StepFault::UnknownCode => 3,
-            StepFault::InField(fault) => fault.told().number,
+            StepFault::InField(fault) => Told::from(fault).number,
         }
     }
 }
@@ -115,7 +115,6 @@ pub struct BadStep {
 
 // So many numbers, and the offset just past them.
 fn read_numbers<const N: usize>(rest: Rest) -> Result<([u32; N], usize), RecordFault>
-    requires { rest.place + length rest.bytes.now < 2 ^ 64 }
     ensures { result ≡ numbers_in N (left_of rest.entry) }
 {
     let mut rest = rest;
@@ -130,7 +129,6 @@ fn read_numbers<const N: usize>(rest: Rest) -> Result<([u32; N], usize), RecordF
 
 // A change that has no number of its own.
 fn read_change(change: Change, rest: Rest) -> Result<(Step, usize), RecordFault>
-    requires { rest.place + length rest.bytes.now < 2 ^ 64 }
     ensures { result ≡ change_in change (left_of rest.entry) }
 {
     let ([number], end) = read_numbers::<1>(rest)?;
@@ -139,7 +137,6 @@ fn read_change(change: Change, rest: Rest) -> Result<(Step, usize), RecordFault>
 
 // The numbers of a call.
 fn read_step(code: Code, rest: Rest) -> Result<(Step, usize), RecordFault>
-    requires { rest.place + length rest.bytes.now < 2 ^ 64 }
     ensures { result ≡ step_in code (left_of rest.entry) }
 {
     match code {
@@ -174,7 +171,6 @@ fn read_step(code: Code, rest: Rest) -> Result<(Step, usize), RecordFault>
 
 // A code byte and what stands behind it; the code is judged before the numbers.
 fn read_record(byte: u8, rest: Rest) -> Result<(Step, usize), StepFault>
-    requires { rest.place + length rest.bytes.now < 2 ^ 64 }
     ensures { result ≡ record_in byte (left_of rest.entry) }
 {
     let code = Code::try_from(byte)?;
@@ -185,10 +181,7 @@ fn read_record(byte: u8, rest: Rest) -> Result<(Step, usize), StepFault>
 pub fn step_at(input: &[u8], place: usize) -> Result<Option<(Step, usize)>, BadStep>
     ensures { result ≡ step_at input.now place }
 {
-    if place > input.len() {
-        return Ok(None);
-    }
-    let [byte, bytes @ ..] = &input[place..] else {
+    let Some([byte, bytes @ ..]) = input.get(place..) else {
         return Ok(None);
     };
     let rest = Rest {
@@ -202,13 +195,13 @@ pub fn step_at(input: &[u8], place: usize) -> Result<Option<(Step, usize)>, BadS
 }
 
 // The call records from an offset of the input on. A bad one is the last.
-#[derive(Drop)]
-pub(crate) struct Records<'a> {
+#[derive(Clone, Copy)]
+pub(crate) struct Calls<'a> {
     pub(crate) input: &'a [u8],
     pub(crate) place: usize,
 }
 
-impl<'a> Iterator for Records<'a> {
+impl<'a> Iterator for Calls<'a> {
     type Item = Result<Step, BadStep>;
 
     ghost next_gives = { λ s given t. Gives (script_from s.input.now s.place) given (script_from t.input.now t.place) };
@@ -216,7 +209,7 @@ impl<'a> Iterator for Records<'a> {
     ghost remaining = { λ s. at_most (length s.input.now - s.place) };
 
     #[tactic(auto, using(crate::proofs::Advancing::goes_on, crate::proofs::Advancing::gives_step, crate::proofs::Advancing::gives_none, crate::proofs::Advancing::gives_bad, crate::proofs::Advancing::bad_inside))]
-    fn next(&mut self) -> Option<Result<Step, BadStep>> {
+    fn next(&mut self) -> Option<Self::Item> {
         match step_at(self.input, self.place) {
             Ok(Some((step, end))) => {
                 self.place = end;

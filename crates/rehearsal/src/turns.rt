@@ -1,6 +1,6 @@
 // A turn of a rehearsal: begin, settle with the count, and give up where that is refused.
 ghost use Rattle.std.specs.Prelude.{◌≡◌};
-ghost use Rattle.controller.specs.Tied.{Open, Tied};
+ghost use Rattle.controller.specs.Tied.{OpenOn, TiedTo};
 ghost use Rattle.rehearsal.specs.Turns.{done_by, turned, turned_by};
 
 use crate::lines::{Accepted, Outcome};
@@ -15,9 +15,9 @@ fn settle_turn<L: ReadyList>(
     memory: &mut TaskMemory,
     list: &mut L,
 ) -> (Resting, Outcome)
-    requires { Open L.Order.TieOrder.before opened.turn memory.old.slots (L.ReadyList.held list.old) (L.ReadyList.ok list.old) }
-    ensures done { done_by result.0 memory.new.slots result.1 ≡ turned_by opened.turn memory.old.slots count }
-    ensures tied { Tied result.0.clock memory.new.slots (L.ReadyList.held list.new) (L.ReadyList.ok list.new) }
+    requires { OpenOn L.ReadyList L.Order.TieOrder.before opened memory.old list.old }
+    ensures done { done_by result.0 memory.new result.1 ≡ turned_by opened memory.old count }
+    ensures tied { TiedTo L.ReadyList result.0 memory.new list.new }
 {
     let runs = opened.turn().runs;
     match opened.settle(count as u64, memory, list) {
@@ -33,9 +33,9 @@ pub(crate) fn take_turn<L: ReadyList>(
     memory: &mut TaskMemory,
     list: &mut L,
 ) -> (Resting, Outcome)
-    requires { Tied rest.clock memory.old.slots (L.ReadyList.held list.old) (L.ReadyList.ok list.old) }
-    ensures done { done_by result.0 memory.new.slots result.1 ≡ turned L.Order.TieOrder.before rest.clock memory.old.slots count }
-    ensures tied { Tied result.0.clock memory.new.slots (L.ReadyList.held list.new) (L.ReadyList.ok list.new) }
+    requires { TiedTo L.ReadyList rest memory.old list.old }
+    ensures done { done_by result.0 memory.new result.1 ≡ turned L.Order.TieOrder.before rest memory.old count }
+    ensures tied { TiedTo L.ReadyList result.0 memory.new list.new }
 {
     match rest.begin(memory, list) {
         Ok(opened) => settle_turn(opened, count, memory, list),

@@ -6,6 +6,5 @@ use Rattle.std.proofs.Math.ListN.{length-set}
 pub loop-number-preserved : goal.loop-number-preserved
 loop-number-preserved g c = (
   length-set _ _ _ ∙ c.loop-number.invariant.0,
-  c.in_ok-field.ensures.room,
-  c.loop-number.invariant.2 ∙ behind_more c.loop-number.number-items c.loop-number.number-index g.row.N _ _ (omega arith) c.loop-number.invariant.0 c.in_ok-field.ensures.value,
+  c.loop-number.invariant.1 ∙ behind_more c.loop-number.number-items c.loop-number.number-index g.row.N _ _ (omega arith) c.loop-number.invariant.0 c.in_ok-field.ensures,
 )

@@ -1,4 +1,4 @@
-use Rattle.std.proofs.Common.{◌≡◌, ◌+◌, ◌-◌, ◌^◌, ◌<◌, length, take}
+use Rattle.std.proofs.Common.{◌≡◌, ◌-◌, length, take}
 use Rattle.rehearsal.proofs.Arguments.{behind}
 use Rattle.rehearsal.proofs.scripts.read_numbers.Given as goal
 use Rattle.rehearsal.specs.Scripts.{numbers_in}
@@ -8,5 +8,4 @@ use Rattle.sheet.specs.Values.{left_of}
 abbrev pub invariant-loop-number : goal.invariant-loop-number
 invariant-loop-number g l =
     (length l.number-items ≡ g.row.N)
-    × (l.rest.place + length l.rest.bytes.now < 2 ^ 64)
     × (numbers_in g.row.N (left_of l.fn.rest) ≡ behind (take l.number-index l.number-items) (numbers_in (g.row.N - l.number-index) (left_of l.rest)))
