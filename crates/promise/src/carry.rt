@@ -27,7 +27,7 @@ pub fn carry_out<L: ReadyList>(
     ensures promise { Promise L.Order.TieOrder.before fresh (map asked_by calls.now) answers.new }
 {
     let mut stage = Stage::start(memory, list);
-    // No clause tells what was written through a zip with places, so the calls are taken one by one.
+    // Not a zip with the places: what is written through one, no clause tells afterwards.
     let mut asked = calls.iter();
     for answer in answers.iter_mut() {
         let Some(call) = asked.next() else { break };
