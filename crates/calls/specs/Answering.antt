@@ -1,8 +1,10 @@
 -- What a controller answers to each call, and where it then stands. Every answer is that of the single call's contract.
 use Rattle.std.specs.Prelude.{ℕ, ◌+◌, ◌^◌, Bool, cond, List, [], ◌∷◌, map, Some, None, Ok, Err, fold, Option, Result, ◌==◌, nat_lt}
 use Rattle.calls.specs.Asking.{Asked, admit, begin, change, make, settle, withdraw}
-use Rattle.calls.specs.declared.exchanges.Answer.{Answer}
-use Rattle.calls.specs.declared.exchanges.Answer.TheVariants.{Done, Faulty, Made, Opened, OutOfPlace, Refused, Settled, Withdrawn}
+use Rattle.calls.specs.declared.exchanges.Denial.{Denial}
+use Rattle.calls.specs.declared.exchanges.Denial.TheVariants.{Faulty, OutOfPlace, Refused}
+use Rattle.calls.specs.declared.exchanges.Reply.{Reply}
+use Rattle.calls.specs.declared.exchanges.Reply.TheVariants.{Done, Made, Opened, Settled, Withdrawn}
 use Rattle.controller.specs.Admitting.{accepted, admission_to, with_task}
 use Rattle.controller.specs.Changing.{change_at}
 use Rattle.controller.specs.Making.{made, made_tasks, make_answer}
@@ -10,14 +12,12 @@ use Rattle.controller.specs.Settling.{settled_tasks}
 use Rattle.controller.specs.Tasks.{Tasks, no_tasks}
 use Rattle.controller.specs.Turns.{begun}
 use Rattle.controller.specs.Withdrawing.{departing, with_slot, withdrawal_at}
-use Rattle.controller.specs.declared.faults.SheetFault.{SheetFault}
 use Rattle.controller.specs.declared.states.Turn.{Turn}
 use Rattle.order.specs.declared.entries.Entry.{Entry}
 use Rattle.ready.specs.Held.{first_of}
 use Rattle.rules.specs.Tasks.{entry_of}
-use Rattle.rules.specs.declared.refusals.Refusal.{Refusal}
 use Rattle.rules.specs.declared.refusals.Refusal.TheVariants.{ClockAtEnd, CountTooHigh}
-use Rattle.rules.specs.declared.withdrawals.Departure.{Departure}
+use Rattle.std.specs.Result.{result_map_both}
 
 -- where a controller stands: its clock, its tasks, and the turn that is open, if one is
 pub record State : Type 0 where
@@ -35,18 +35,9 @@ in_turn turn tasks = record { clock = turn.start; tasks = tasks; turn = Some tur
 abbrev pub start : State
 start = at_rest 0 no_tasks
 
--- what each call hands out, as an answer
-abbrev pub said_of_make : Result ℕ SheetFault → Answer
-said_of_make (Ok tasks) = Made tasks
-said_of_make (Err fault) = Faulty fault
-
-abbrev pub said_of : Result (Unit {0}) Refusal → Answer
-said_of (Ok done) = Done
-said_of (Err why) = Refused why
-
-abbrev pub said_of_withdraw : Result Departure Refusal → Answer
-said_of_withdraw (Ok when) = Withdrawn when
-said_of_withdraw (Err why) = Refused why
+-- what a call has done, or why it was denied
+abbrev pub Answer : Type 0
+Answer = Result Reply Denial
 
 -- the turn that the tasks ask for at T
 abbrev pub turn_at : (Entry → Entry → Bool) → ℕ → Tasks → Turn
@@ -54,12 +45,12 @@ turn_at before T tasks = begun T tasks (first_of before (map entry_of tasks))
 
 -- at rest every call is in its place but settle
 abbrev pub rest_answer : (Entry → Entry → Bool) → ℕ → Tasks → Asked → Answer
-rest_answer before T tasks (make sheet) = said_of_make (make_answer (made sheet))
-rest_answer before T tasks (admit asked) = said_of (accepted (admission_to T tasks asked))
-rest_answer before T tasks (change number how) = said_of (accepted (change_at T tasks number how))
-rest_answer before T tasks (withdraw number) = said_of_withdraw (departing (withdrawal_at T tasks number))
-rest_answer before T tasks begin = cond (T == 2 ^ 40) (Refused ClockAtEnd) (Opened (turn_at before T tasks))
-rest_answer before T tasks (settle count) = OutOfPlace
+rest_answer before T tasks (make sheet) = result_map_both Made Faulty (make_answer (made sheet))
+rest_answer before T tasks (admit asked) = result_map_both (λ done. Done) Refused (accepted (admission_to T tasks asked))
+rest_answer before T tasks (change number how) = result_map_both (λ done. Done) Refused (accepted (change_at T tasks number how))
+rest_answer before T tasks (withdraw number) = result_map_both Withdrawn Refused (departing (withdrawal_at T tasks number))
+rest_answer before T tasks begin = cond (T == 2 ^ 40) (Err (Refused ClockAtEnd)) (Ok (Opened (turn_at before T tasks)))
+rest_answer before T tasks (settle count) = Err OutOfPlace
 
 abbrev pub rest_next : (Entry → Entry → Bool) → ℕ → Tasks → Asked → State
 rest_next before T tasks (make sheet) = at_rest 0 (made_tasks (made sheet))
@@ -71,20 +62,12 @@ rest_next before T tasks (settle count) = at_rest T tasks
 
 -- in an open turn only settle is
 abbrev pub turn_answer : Turn → Asked → Answer
-turn_answer turn (make sheet) = OutOfPlace
-turn_answer turn (admit asked) = OutOfPlace
-turn_answer turn (change number how) = OutOfPlace
-turn_answer turn (withdraw number) = OutOfPlace
-turn_answer turn begin = OutOfPlace
-turn_answer turn (settle count) = cond (nat_lt turn.length count) (Refused CountTooHigh) (Settled (turn.start + count))
+turn_answer turn (settle count) = cond (nat_lt turn.length count) (Err (Refused CountTooHigh)) (Ok (Settled (turn.start + count)))
+turn_answer turn asked = Err OutOfPlace
 
 abbrev pub turn_next : Turn → Tasks → Asked → State
-turn_next turn tasks (make sheet) = in_turn turn tasks
-turn_next turn tasks (admit asked) = in_turn turn tasks
-turn_next turn tasks (change number how) = in_turn turn tasks
-turn_next turn tasks (withdraw number) = in_turn turn tasks
-turn_next turn tasks begin = in_turn turn tasks
 turn_next turn tasks (settle count) = cond (nat_lt turn.length count) (in_turn turn tasks) (at_rest (turn.start + count) (settled_tasks turn count tasks))
+turn_next turn tasks asked = in_turn turn tasks
 
 -- the answer to a call, and the state after it
 abbrev pub answer_in : (Entry → Entry → Bool) → ℕ → Tasks → Option Turn → Asked → Answer

@@ -1,7 +1,4 @@
 // What is asked of a controller, and what it answers.
-ghost use Rattle.std.specs.Prelude.{◌≡◌};
-ghost use Rattle.calls.specs.Answering.{said_of, said_of_make, said_of_withdraw};
-
 use controller::faults::SheetFault;
 use controller::states::Turn;
 use rules::admission::Reservation;
@@ -20,11 +17,11 @@ pub enum Call<'a> {
     Settle { count: u64 },
 }
 
+// What a call has done.
 #[derive(Clone, Copy)]
-pub enum Answer {
-    // make: how many tasks the sheet has, or what is wrong with it
+pub enum Reply {
+    // make: how many tasks the sheet has
     Made(u32),
-    Faulty(SheetFault),
     // admit or change was accepted
     Done,
     // withdraw was accepted: when the task goes
@@ -33,38 +30,39 @@ pub enum Answer {
     Opened(Turn),
     // settle was accepted: the clock after it
     Settled(u64),
+}
+
+// Why a call was denied.
+#[derive(Clone, Copy, PartialEq, Eq, Debug)]
+pub enum Denial {
+    // make: what is wrong with the sheet
+    Faulty(SheetFault),
     // any call but make was refused
     Refused(Refusal),
     // settle where no turn is open, or any other call where one is: nothing was done
     OutOfPlace,
 }
 
-// The answer to a make.
-pub(crate) fn said_of_make(made: Result<u32, SheetFault>) -> Answer
-    ensures { result ≡ said_of_make made }
-{
-    match made {
-        Ok(tasks) => Answer::Made(tasks),
-        Err(fault) => Answer::Faulty(fault),
+pub type Answer = Result<Reply, Denial>;
+
+impl From<SheetFault> for Denial {
+    ghost use Rattle.std.specs.Prelude.{◌≡◌};
+    ghost use Rattle.calls.specs.declared.exchanges.Denial.TheVariants.{Faulty};
+
+    ghost from_gives = { λ fault denial. denial ≡ Faulty fault };
+
+    fn from(fault: SheetFault) -> Denial {
+        Denial::Faulty(fault)
     }
 }
 
-// The answer to an admission or a change.
-pub(crate) fn said_of(done: Result<(), Refusal>) -> Answer
-    ensures { result ≡ said_of done }
-{
-    match done {
-        Ok(()) => Answer::Done,
-        Err(why) => Answer::Refused(why),
-    }
-}
+impl From<Refusal> for Denial {
+    ghost use Rattle.std.specs.Prelude.{◌≡◌};
+    ghost use Rattle.calls.specs.declared.exchanges.Denial.TheVariants.{Refused};
 
-// The answer to a withdrawal.
-pub(crate) fn said_of_withdraw(when: Result<Departure, Refusal>) -> Answer
-    ensures { result ≡ said_of_withdraw when }
-{
-    match when {
-        Ok(departure) => Answer::Withdrawn(departure),
-        Err(why) => Answer::Refused(why),
+    ghost from_gives = { λ why denial. denial ≡ Refused why };
+
+    fn from(why: Refusal) -> Denial {
+        Denial::Refused(why)
     }
 }

@@ -2,11 +2,10 @@
 ghost use Rattle.std.specs.Prelude.{◌≡◌, map};
 ghost use Rattle.calls.specs.Answering.{after, answer_to, rest_answer, rest_next, start as started, turn_answer, turn_next};
 ghost use Rattle.calls.specs.Asking.{asked_by, begin as asks_begin, settle as asks_settle};
-ghost use Rattle.calls.specs.Stages.{TiedAt, state_of};
-ghost use Rattle.controller.specs.Tied.{Open, Tied};
+ghost use Rattle.calls.specs.Stages.{TiedTo, state_of};
 ghost use Rattle.rules.specs.Tasks.{entry_of};
 
-use crate::exchanges::{Answer, Call, said_of, said_of_make, said_of_withdraw};
+use crate::exchanges::{Answer, Call, Denial, Reply};
 use controller::make::{make, start};
 use controller::memory::TaskMemory;
 use controller::states::{OpenTurn, Resting};
@@ -20,17 +19,17 @@ pub enum Stage {
 
 // Begins a turn, where the clock has not come to its last tick.
 fn open_turn<L: ReadyList>(rest: Resting, memory: &TaskMemory, list: &L) -> (Stage, Answer)
-    requires { Tied rest.clock memory.now.slots (L.ReadyList.held list.now) (L.ReadyList.ok list.now) }
-    ensures answer { result.1 ≡ rest_answer L.Order.TieOrder.before rest.clock memory.now.slots asks_begin }
-    ensures state { state_of result.0 memory.now.slots ≡ rest_next L.Order.TieOrder.before rest.clock memory.now.slots asks_begin }
-    ensures tied { TiedAt L.Order.TieOrder.before result.0 memory.now.slots (L.ReadyList.held list.now) (L.ReadyList.ok list.now) }
+    requires { TiedTo L.ReadyList L.Order.TieOrder.before (Stage.Rest rest) memory.now list.now }
+    ensures answer { result.1 ≡ rest_answer L.Order.TieOrder.before rest memory.now asks_begin }
+    ensures state { state_of result.0 memory.now ≡ rest_next L.Order.TieOrder.before rest memory.now asks_begin }
+    ensures tied { TiedTo L.ReadyList L.Order.TieOrder.before result.0 memory.now list.now }
 {
     match rest.begin(memory, list) {
         Ok(opened) => {
             let turn = opened.turn();
-            (Stage::Turning(opened), Answer::Opened(turn))
+            (Stage::Turning(opened), Ok(Reply::Opened(turn)))
         }
-        Err((rest, why)) => (Stage::Rest(rest), Answer::Refused(why)),
+        Err((rest, why)) => (Stage::Rest(rest), Err(why.into())),
     }
 }
 
@@ -41,31 +40,35 @@ fn answer_at_rest<L: ReadyList>(
     memory: &mut TaskMemory,
     list: &mut L,
 ) -> (Stage, Answer)
-    requires { Tied rest.clock memory.old.slots (L.ReadyList.held list.old) (L.ReadyList.ok list.old) }
-    ensures answer { result.1 ≡ rest_answer L.Order.TieOrder.before rest.clock memory.old.slots (asked_by call.entry) }
-    ensures state { state_of result.0 memory.new.slots ≡ rest_next L.Order.TieOrder.before rest.clock memory.old.slots (asked_by call.entry) }
-    ensures tied { TiedAt L.Order.TieOrder.before result.0 memory.new.slots (L.ReadyList.held list.new) (L.ReadyList.ok list.new) }
+    requires { TiedTo L.ReadyList L.Order.TieOrder.before (Stage.Rest rest) memory.old list.old }
+    ensures answer { result.1 ≡ rest_answer L.Order.TieOrder.before rest memory.old (asked_by call.entry) }
+    ensures state { state_of result.0 memory.new ≡ rest_next L.Order.TieOrder.before rest memory.old (asked_by call.entry) }
+    ensures tied { TiedTo L.ReadyList L.Order.TieOrder.before result.0 memory.new list.new }
 {
     match call {
         Call::Make { sheet } => {
             let _ = rest.retire();
             let (rest, made) = make(sheet, memory, list);
-            (Stage::Rest(rest), said_of_make(made))
+            let answer = made.map(Reply::Made).map_err(Denial::from);
+            (Stage::Rest(rest), answer)
         }
         Call::Admit { asked } => {
             let done = rest.admit(asked, memory, list);
-            (Stage::Rest(rest), said_of(done))
+            let answer = done.map(|()| Reply::Done).map_err(Denial::from);
+            (Stage::Rest(rest), answer)
         }
         Call::Change { number, change } => {
             let done = rest.change(number, change, memory, list);
-            (Stage::Rest(rest), said_of(done))
+            let answer = done.map(|()| Reply::Done).map_err(Denial::from);
+            (Stage::Rest(rest), answer)
         }
         Call::Withdraw { number } => {
             let when = rest.withdraw(number, memory, list);
-            (Stage::Rest(rest), said_of_withdraw(when))
+            let answer = when.map(Reply::Withdrawn).map_err(Denial::from);
+            (Stage::Rest(rest), answer)
         }
         Call::Begin => open_turn(rest, memory, list),
-        Call::Settle { .. } => (Stage::Rest(rest), Answer::OutOfPlace),
+        Call::Settle { .. } => (Stage::Rest(rest), Err(Denial::OutOfPlace)),
     }
 }
 
@@ -76,17 +79,17 @@ fn settle_turn<L: ReadyList>(
     memory: &mut TaskMemory,
     list: &mut L,
 ) -> (Stage, Answer)
-    requires { Open L.Order.TieOrder.before opened.turn memory.old.slots (L.ReadyList.held list.old) (L.ReadyList.ok list.old) }
-    ensures answer { result.1 ≡ turn_answer opened.turn (asks_settle count) }
-    ensures state { state_of result.0 memory.new.slots ≡ turn_next opened.turn memory.old.slots (asks_settle count) }
-    ensures tied { TiedAt L.Order.TieOrder.before result.0 memory.new.slots (L.ReadyList.held list.new) (L.ReadyList.ok list.new) }
+    requires { TiedTo L.ReadyList L.Order.TieOrder.before (Stage.Turning opened) memory.old list.old }
+    ensures answer { result.1 ≡ turn_answer opened (asks_settle count) }
+    ensures state { state_of result.0 memory.new ≡ turn_next opened memory.old (asks_settle count) }
+    ensures tied { TiedTo L.ReadyList L.Order.TieOrder.before result.0 memory.new list.new }
 {
     match opened.settle(count, memory, list) {
         Ok(rest) => {
             let clock = rest.clock();
-            (Stage::Rest(rest), Answer::Settled(clock))
+            (Stage::Rest(rest), Ok(Reply::Settled(clock)))
         }
-        Err((opened, why)) => (Stage::Turning(opened), Answer::Refused(why)),
+        Err((opened, why)) => (Stage::Turning(opened), Err(why.into())),
     }
 }
 
@@ -97,27 +100,23 @@ fn answer_in_turn<L: ReadyList>(
     memory: &mut TaskMemory,
     list: &mut L,
 ) -> (Stage, Answer)
-    requires { Open L.Order.TieOrder.before opened.turn memory.old.slots (L.ReadyList.held list.old) (L.ReadyList.ok list.old) }
-    ensures answer { result.1 ≡ turn_answer opened.turn (asked_by call.entry) }
-    ensures state { state_of result.0 memory.new.slots ≡ turn_next opened.turn memory.old.slots (asked_by call.entry) }
-    ensures tied { TiedAt L.Order.TieOrder.before result.0 memory.new.slots (L.ReadyList.held list.new) (L.ReadyList.ok list.new) }
+    requires { TiedTo L.ReadyList L.Order.TieOrder.before (Stage.Turning opened) memory.old list.old }
+    ensures answer { result.1 ≡ turn_answer opened (asked_by call.entry) }
+    ensures state { state_of result.0 memory.new ≡ turn_next opened memory.old (asked_by call.entry) }
+    ensures tied { TiedTo L.ReadyList L.Order.TieOrder.before result.0 memory.new list.new }
 {
     match call {
         Call::Settle { count } => settle_turn(opened, count, memory, list),
-        Call::Make { .. } => (Stage::Turning(opened), Answer::OutOfPlace),
-        Call::Admit { .. } => (Stage::Turning(opened), Answer::OutOfPlace),
-        Call::Change { .. } => (Stage::Turning(opened), Answer::OutOfPlace),
-        Call::Withdraw { .. } => (Stage::Turning(opened), Answer::OutOfPlace),
-        Call::Begin => (Stage::Turning(opened), Answer::OutOfPlace),
+        _ => (Stage::Turning(opened), Err(Denial::OutOfPlace)),
     }
 }
 
 impl Stage {
     // A controller without tasks, at the clock 0, whatever memory and list held before.
     pub fn start<L: ReadyList>(memory: &mut TaskMemory, list: &mut L) -> Stage
-        ensures state { state_of result memory.new.slots ≡ started }
-        ensures list { L.ReadyList.held list.new ≡ map entry_of memory.new.slots }
-        ensures tied { TiedAt L.Order.TieOrder.before result memory.new.slots (L.ReadyList.held list.new) (L.ReadyList.ok list.new) }
+        ensures state { state_of result memory.new ≡ started }
+        ensures list { L.ReadyList.held list.new ≡ map entry_of memory.new }
+        ensures tied { TiedTo L.ReadyList L.Order.TieOrder.before result memory.new list.new }
     {
         Stage::Rest(start(memory, list))
     }
@@ -129,11 +128,11 @@ impl Stage {
         memory: &mut TaskMemory,
         list: &mut L,
     ) -> (Stage, Answer)
-        requires { TiedAt L.Order.TieOrder.before self memory.old.slots (L.ReadyList.held list.old) (L.ReadyList.ok list.old) }
-        ensures answer { result.1 ≡ answer_to L.Order.TieOrder.before (state_of self memory.old.slots) (asked_by call.entry) }
-        ensures state { state_of result.0 memory.new.slots ≡ after L.Order.TieOrder.before (state_of self memory.old.slots) (asked_by call.entry) }
-        ensures list { L.ReadyList.held list.new ≡ map entry_of memory.new.slots }
-        ensures tied { TiedAt L.Order.TieOrder.before result.0 memory.new.slots (L.ReadyList.held list.new) (L.ReadyList.ok list.new) }
+        requires { TiedTo L.ReadyList L.Order.TieOrder.before self memory.old list.old }
+        ensures answer { result.1 ≡ answer_to L.Order.TieOrder.before (state_of self memory.old) (asked_by call.entry) }
+        ensures state { state_of result.0 memory.new ≡ after L.Order.TieOrder.before (state_of self memory.old) (asked_by call.entry) }
+        ensures list { L.ReadyList.held list.new ≡ map entry_of memory.new }
+        ensures tied { TiedTo L.ReadyList L.Order.TieOrder.before result.0 memory.new list.new }
     {
         match self {
             Stage::Rest(rest) => answer_at_rest(rest, call, memory, list),
@@ -143,10 +142,10 @@ impl Stage {
 
     // Ends a run, and tells where its clock stood; an open turn is given back unused.
     pub fn end<L: ReadyList>(self, memory: &mut TaskMemory, list: &mut L) -> u64
-        requires { TiedAt L.Order.TieOrder.before self memory.old.slots (L.ReadyList.held list.old) (L.ReadyList.ok list.old) }
-        ensures clock { result ≡ (state_of self memory.old.slots).clock }
-        ensures tasks { memory.new.slots ≡ memory.old.slots }
-        ensures list { L.ReadyList.held list.new ≡ map entry_of memory.new.slots }
+        requires { TiedTo L.ReadyList L.Order.TieOrder.before self memory.old list.old }
+        ensures clock { result ≡ (state_of self memory.old).clock }
+        ensures tasks { memory.new ≡ memory.old }
+        ensures list { L.ReadyList.held list.new ≡ map entry_of memory.new }
     {
         match self {
             Stage::Rest(rest) => rest.retire(),

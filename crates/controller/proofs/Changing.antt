@@ -3,7 +3,6 @@ use Rattle.std.proofs.Common.{◌≡◌, ℕ, ◌+◌, ◌-◌, ◌<◌, ◌≤�
 use Rattle.controller.specs.Changing.{change_at, on_task, task_at}
 use Rattle.controller.specs.Tasks.{InSlot, Mirrors, Tasks, rates}
 use Rattle.controller.specs.Tied.{Tied}
-use Rattle.controller.specs.Withdrawing.{withdrawal_at}
 use Rattle.ready.proofs.Slots.{slot_at-some}
 use Rattle.ready.specs.Held.{Held}
 use Rattle.rules.proofs.Changing.{Kept, KeptSlot, change_kept, withdrawn_kept}
@@ -80,6 +79,3 @@ module _ (T : ℕ) (tasks : Tasks) (held : Held) (ok : Type 0) (tied : Tied T ta
   -- the outcome, by the task's number
   pub outcome : (change : Change) (u : Task) → changed T (rates tasks) t change ≡ Ok u → change_at T tasks number change ≡ Ok u
   outcome change u got = ap (λ o. on_task o (λ v. changed T (rates tasks) v change)) is ∙ got
-
-  pub withdrawal_outcome : (slot : Option Task) → withdrawn T t ≡ Ok slot → withdrawal_at T tasks number ≡ Ok slot
-  withdrawal_outcome slot got = ap (λ o. on_task o (withdrawn T)) is ∙ got

@@ -1,10 +1,7 @@
 -- What begin rests on: no deadline lies behind the clock, and a task that is handed the processor has a tick left.
 use Rattle.std.proofs.Common.{◌≡◌, ℕ, ◌-◌, ◌^◌, ◌<◌, min, Bool, true, false, ltb, [], ◌∷◌, length, get_or, Some, None, fold, Option, sym, ap, ◌∙◌, ⊎_elim, arith}
 use Rattle.controller.specs.Tasks.{Mirrors, Tasks}
-use Rattle.controller.specs.Tied.{InTable}
-use Rattle.controller.specs.Turns.{begun, length_of, nearest, runs_of}
-use Rattle.controller.specs.declared.states.Runs.{Runs}
-use Rattle.controller.specs.declared.states.Turn.{Turn}
+use Rattle.controller.specs.Turns.{length_of, nearest}
 use Rattle.order.specs.declared.entries.Entry.{Entry}
 use Rattle.ready.proofs.Slots.{slot_at-some}
 use Rattle.ready.specs.Held.{Held, Least}
@@ -25,11 +22,6 @@ nearest_from T bound (Some t ∷ tasks) lt all = nearest_from T (min bound t.dea
 pub nearest_after : (T : ℕ) (tasks : Tasks) → T < 2 ^ 40 → AllByRecursion (SoundSlot T) tasks → T < nearest tasks
 nearest_after T tasks lt all = nearest_from T (2 ^ 40) tasks lt all
 
--- the first entry's number is that of a slot
-pub first_in_table : (before : Entry → Entry → Bool) (held : Held) (first : Option Entry) → Least before held first → InTable first
-first_in_table before held None least = tt
-first_in_table before held (Some e) least = let h = slot_at-some held e.number e least.is_held in (omega (arith, h.0), h.1)
-
 -- an entry stands for a task with a tick left
 entry_left : (slot : Option Task) (e : Entry) → entry_of slot ≡ Some e → 0 < left_of slot
 entry_left None e is = let z : ◌≡◌ {A = ℕ} 0 1 = cc in absurd (omega arith)
@@ -49,11 +41,3 @@ length_some before T tasks held (Some e) lt sound mirror least =
     let in' : e.number - 1 < length tasks = omega (arith, h.0, h.1, mirror.many) in
     let is : entry_of (get_or tasks (e.number - 1) None) ≡ Some e = sym (get_or-map entry_of tasks (e.number - 1) None None in') ∙ (ap (λ x. get_or x (e.number - 1) None) (sym mirror.same) ∙ h.2) in
     omega (arith, nearest_after T tasks lt sound, entry_left (get_or tasks (e.number - 1) None) e is)
-
--- the turn that begin builds is the one that its memory asks for
-pub turn_begun : (T : ℕ) (tasks : Tasks) (first : Option Entry) (value : Option Entry) (ticks : ℕ) (runs : Runs) → first ≡ value → ticks ≡ length_of T tasks first → runs ≡ runs_of first
-    → ◌≡◌ {A = Turn} (record { start = T; length = ticks; runs = runs }) (begun T tasks value)
-turn_begun T tasks first value ticks runs v l r =
-    let l' : ticks ≡ length_of T tasks value = l ∙ ap (length_of T tasks) v in
-    let r' : runs ≡ runs_of value = r ∙ ap runs_of v in
-    cc

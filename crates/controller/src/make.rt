@@ -13,7 +13,8 @@ use crate::memory::TaskMemory;
 use crate::states::Resting;
 use ready::ReadyList;
 use rules::admission::Reservation;
-use sheet::records::{Record, TaskRecord, record_at};
+use sheet::records::{Record, TaskRecord};
+use sheet::walk::Records;
 
 impl TaskMemory {
     // One task of the sheet, admitted at the clock 0.
@@ -51,10 +52,8 @@ impl TaskMemory {
         ensures answer { with_tasks result self.new ≡ enrolled self.old (sheet_of sheet.now) }
         ensures tied { TiedTo L.ReadyList 0 self.new list.new }
     {
-        let mut place = 0;
-        while let Some(found) = record_at(sheet, place)? {
-            self.enrol_record(found.record, list)?;
-            place = found.end;
+        for record in Records::new(sheet) {
+            self.enrol_record(record?, list)?;
         }
         Ok(())
     }

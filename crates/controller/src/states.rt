@@ -22,7 +22,7 @@ impl Model for Resting {
     ghost inverse = { λ clock. record { clock = clock } };
 }
 
-// Who has the processor in a turn. An idle turn is a case with a name: an option of a task would not say that nothing runs.
+// Who has the processor in a turn. Two cases with names, by a rule of the project; not an option of a task.
 #[derive(Clone, Copy, PartialEq, Eq, Debug)]
 pub enum Runs {
     Task { number: u32, deadline: u64 },

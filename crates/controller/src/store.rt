@@ -1,4 +1,6 @@
 // The one writer of tasks: it keeps the table and the ready list together.
+// Memory and list stay two parameters with their tie in each contract: both are lent to every call, by a rule of the project,
+// and a struct of two `&mut` could not keep the tie as its own, since it is false between the write of the one and of the other.
 ghost use Rattle.std.specs.Prelude.{◌≡◌, ◌+◌, ◌-◌, ◌<◌, true, slice_set};
 ghost use Rattle.controller.specs.Tasks.{Fits, InSlot, Mirrors, no_tasks};
 ghost use Rattle.controller.specs.Tied.{TiedTo};

@@ -1,10 +1,10 @@
 -- What a tie order keeps, and the tie orders that are delivered, each as one test on two entries.
-use Rattle.std.specs.Prelude.{eqb, leb, ltb, Bool, true, cond, not, ◌&&◌, ◌≡◌, ℕ, ◌-◌, ◌<◌, Some, None, Option}
+use Rattle.std.specs.Prelude.{◌==◌, nat_lt, nat_le, Bool, true, cond, not, ◌&&◌, ◌≡◌, ◌≢◌, ℕ, ◌-◌, ◌<◌, Some, None, Option}
 use Rattle.order.specs.declared.entries.Entry.{Entry}
 
 -- a task number is 1 to 64
 abbrev pub in_range : ℕ → Bool
-in_range number = ltb 0 number && leb number 64
+in_range number = nat_lt 0 number && nat_le number 64
 
 -- the place of a task number's slot; none of a number that is no task number
 abbrev pub slot_of : ℕ → Option ℕ
@@ -12,7 +12,7 @@ slot_of number = cond (in_range number) (Some (number - 1)) None
 
 -- entries of different tasks
 abbrev pub Apart : Entry → Entry → Type 0
-Apart a b = a.number ≡ b.number → ⊥
+Apart a b = a.number ≢ b.number
 
 -- the laws of a tie order; `before a b` says that a is served before b. Nothing is said of two
 -- entries with one number: a ready list never holds two of them
@@ -26,8 +26,8 @@ pub record Lawful (before : Entry → Entry → Bool) : Type 0 where
 
 -- the earlier deadline first; of equal deadlines the lower number
 abbrev pub by_number : Entry → Entry → Bool
-by_number a b = cond (eqb a.deadline b.deadline) (ltb a.number b.number) (ltb a.deadline b.deadline)
+by_number a b = cond (a.deadline == b.deadline) (nat_lt a.number b.number) (nat_lt a.deadline b.deadline)
 
 -- the earlier deadline first; of equal deadlines the higher rate; of equal rates the lower number
 abbrev pub by_rate : Entry → Entry → Bool
-by_rate a b = cond (eqb a.deadline b.deadline) (cond (eqb a.rate b.rate) (ltb a.number b.number) (ltb b.rate a.rate)) (ltb a.deadline b.deadline)
+by_rate a b = cond (a.deadline == b.deadline) (cond (a.rate == b.rate) (nat_lt a.number b.number) (nat_lt b.rate a.rate)) (nat_lt a.deadline b.deadline)

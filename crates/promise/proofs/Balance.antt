@@ -1,19 +1,19 @@
 -- One task's balance: what it was given, gave up and has left is what its rates have given, less the rounding.
-use Rattle.std.proofs.Common.{◌≡◌, ℕ, ◌+◌, ◌-◌, ◌*◌, ◌<◌, ◌≤◌, true, false, cond, ◌&&◌, eqb, Some, None, Option, sym, refl, ap, ◌∙◌, subst, ⊎_elim, mul_comm, add-mul, mul-zero, zero-mul, mul-add, arith}
-use Rattle.promise.proofs.Sheets.{Fresh}
-use Rattle.promise.specs.Account.{Ledger, changed_by, due, follows, forgone, in_slot, leaves, left_in, opened, passing, regranted, renewed, served, spent, view}
-use Rattle.promise.specs.Promised.{Paid, PaidAt}
+use Rattle.std.proofs.Common.{◌≡◌, ℕ, ◌+◌, ◌-◌, ◌*◌, ◌<◌, ◌≤◌, true, Some, None, Option, ⊎_elim, arith}
+use Rattle.controller.proofs.Settles.{PassedSlot}
+use Rattle.promise.proofs.Sheets.{FreshSlot}
+use Rattle.promise.proofs.Steps.{same_times}
+use Rattle.promise.specs.Account.{Ledger, changed_by, due, follows, in_slot, leaves, left_in, opened, passing, regranted, served, view}
+use Rattle.promise.specs.Promised.{PaidAt}
 use Rattle.rules.proofs.Changing.{PeriodFits, RateFits, period_fits, rate_fits}
-use Rattle.rules.specs.Changes.{becomes, deadline_at, is_waiting, why_not_changed, with_period, with_rate}
-use Rattle.rules.specs.Phases.{stepped}
+use Rattle.rules.specs.Changes.{deadline_at, why_not_changed, with_period, with_rate}
+use Rattle.rules.specs.Jobs.{Chargeable}
 use Rattle.rules.specs.Tasks.{is_ready}
 use Rattle.rules.specs.declared.changes.Change.{Change}
-use Rattle.rules.specs.declared.changes.Change.TheVariants.{Finish, Period, Rate, Wait, Wake}
-use Rattle.rules.specs.declared.phases.Event.TheVariants.{Deadline as Comes, Wait as Waits, Wake as Wakes}
-use Rattle.rules.specs.declared.phases.Phase.{Phase}
-use Rattle.rules.specs.declared.phases.Phase.TheVariants.{Finished, Ready, Waiting}
+use Rattle.rules.specs.declared.changes.Change.TheVariants.{Period, Rate}
+use Rattle.rules.specs.declared.phases.Phase.TheVariants.{Finished}
 use Rattle.rules.specs.declared.tasks.Task.{Task}
-use Rattle.std.proofs.lemmas.Bool.{and_from, and_left, and_right, cases_Bool, cases_eq, cases_lt, cond_both, cond-false, cond-true, eq-eqb, ne_eqb, true≢false}
+use Rattle.std.proofs.lemmas.Bool.{cases_lt}
 use Rattle.std.proofs.lemmas.Bool.Decides.{nat_tests}
 
 -- ticks given, given up and left over all jobs; and what was reckoned with: a release or a change costs less than a tick
@@ -34,81 +34,24 @@ abbrev pub EvenSlot : ℕ → Option Ledger → Type 0
 EvenSlot T None = Unit {0}
 EvenSlot T (Some a) = Even T a
 
-ready_not_over : (p : Phase) → is_ready p ≡ true → p ≡ Finished → ⊥
-ready_not_over p ready is = true≢false (sym ready ∙ ap is_ready is)
-
 -- a first job
-pub even_opened : (T : ℕ) (t : Task) → Fresh T t → Even T (opened t)
-even_opened T t f =
-    let span : t.deadline - T ≡ t.period = omega (arith, f.deadline) in
-    let product : t.rate * (t.deadline - T) ≡ t.rate * t.period = ap (λ n. t.rate * n) span in
-    let left = f.left in
-    record { within = omega arith; most = omega arith; least = omega arith; over = λ is. absurd (ready_not_over t.phase (ap is_ready f.phase) is) }
+pub even_opened : (T : ℕ) (x : Option Task) → FreshSlot T x → EvenSlot T (in_slot opened x)
+even_opened T x f = grind (arith, nat_tests)
 
 -- a change of rate
 even_rate : (T rates : ℕ) (a : Ledger) (rate : ℕ) → is_ready a.terms.phase ≡ true → RateFits T rates (view a) rate → Even T a → Even T (regranted (with_rate T (view a) rate) a)
 even_rate T rates a rate ready f e =
     let R = a.terms.rate in
-    let span = a.terms.deadline - T in
-    let sums : rate + (R - rate) ≡ R + (rate - R) = omega arith in
-    let products : rate * span + (R - rate) * span ≡ R * span + (rate - R) * span =
-    sym (add-mul rate (R - rate) span) ∙ (ap (λ n. n * span) sums ∙ add-mul R (rate - R) span) in
-    let enough = f.enough in
-    let within = e.within in
-    let most = e.most in
-    let least = e.least in
-    let over : a.terms.phase ≡ Finished → left_in (regranted (with_rate T (view a) rate) a).job ≡ 0 = λ is. absurd (ready_not_over a.terms.phase ready is) in
-    ⊎_elim
-    (λ (low : rate < R).
-    let none : (rate - R) * span ≡ 0 = ap (λ n. n * span) (let z : rate - R ≡ 0 = omega arith in z) ∙ zero-mul span in
-    record { within = omega arith; most = omega arith; least = omega arith; over = over })
-    (λ (high : R ≤ rate).
-    let none : (R - rate) * span ≡ 0 = ap (λ n. n * span) (let z : R - rate ≡ 0 = omega arith in z) ∙ zero-mul span in
-    record { within = omega arith; most = omega arith; least = omega arith; over = over })
-    (cases_lt rate R)
+    let products = same_times (a.terms.deadline - T) rate (R - rate) R (rate - R) (omega arith) in
+    ⊎_elim (λ (low : rate < R). grind (arith, nat_tests)) (λ (high : R ≤ rate). grind (arith, nat_tests)) (cases_lt rate R)
 
 -- a change of period
 even_period : (T : ℕ) (a : Ledger) (period : ℕ) → is_ready a.terms.phase ≡ true → T ≤ a.terms.deadline → PeriodFits T (view a) period → Even T a → Even T (regranted (with_period (view a) period) a)
 even_period T a period ready coming f e =
-    let R = a.terms.rate in
     let D = a.terms.deadline in
     let E = deadline_at (view a) period in
-    let after = f.after in
-    let spans : (E - T) + (D - E) ≡ (D - T) + (E - D) = omega arith in
-    let products : R * (E - T) + R * (D - E) ≡ R * (D - T) + R * (E - D) =
-    sym (mul-add R (E - T) (D - E)) ∙ (ap (λ n. R * n) spans ∙ mul-add R (D - T) (E - D)) in
-    let enough = f.enough in
-    let within = e.within in
-    let most = e.most in
-    let least = e.least in
-    let over : a.terms.phase ≡ Finished → left_in (regranted (with_period (view a) period) a).job ≡ 0 = λ is. absurd (ready_not_over a.terms.phase ready is) in
-    ⊎_elim
-    (λ (early : E < D).
-    let none : R * (E - D) ≡ 0 = ap (λ n. R * n) (let z : E - D ≡ 0 = omega arith in z) ∙ mul-zero R in
-    record { within = omega arith; most = omega arith; least = omega arith; over = over })
-    (λ (late : D ≤ E).
-    let none : R * (D - E) ≡ 0 = ap (λ n. R * n) (let z : D - E ≡ 0 = omega arith in z) ∙ mul-zero R in
-    record { within = omega arith; most = omega arith; least = omega arith; over = over })
-    (cases_lt E D)
-
--- ticks that are given up
-even_forgone : (T : ℕ) (u : Task) (a : Ledger) → u.rate ≡ a.terms.rate → u.deadline ≡ a.terms.deadline → u.left ≤ left_in a.job → (u.phase ≡ Finished → u.left ≡ 0) → Even T a → Even T (forgone u a)
-even_forgone T u a rate deadline less over e =
-    let within = e.within in
-    let most = e.most in
-    let least = e.least in
-    let same : u.rate * (u.deadline - T) ≡ a.terms.rate * (a.terms.deadline - T) = ap (λ r. r * (u.deadline - T)) rate ∙ ap (λ d. a.terms.rate * (d - T)) deadline in
-    record { within = omega arith; most = omega arith; least = omega arith; over = λ is. let none = over is in omega arith }
-
-ready_when : (p : Phase) → is_ready p ≡ true → p ≡ Ready
-ready_when Ready is = refl
-ready_when Waiting is = absurd (true≢false (sym is))
-ready_when Finished is = absurd (true≢false (sym is))
-
-waiting_when : (p : Phase) → is_waiting p ≡ true → p ≡ Waiting
-waiting_when Ready is = absurd (true≢false (sym is))
-waiting_when Waiting is = refl
-waiting_when Finished is = absurd (true≢false (sym is))
+    let products = same_times a.terms.rate (E - T) (D - E) (D - T) (E - D) (omega (arith, f.after)) in
+    ⊎_elim (λ (early : E < D). grind (arith, nat_tests)) (λ (late : D ≤ E). grind (arith, nat_tests)) (cases_lt E D)
 
 -- every accepted change keeps the balance
 pub even_changed : (T rates : ℕ) (how : Change) (a : Ledger) → why_not_changed T rates (view a) how ≡ None → T ≤ a.terms.deadline → Even T a → Even T (changed_by T how a)
@@ -118,105 +61,18 @@ even_changed T rates (Rate rate) a clear coming e =
 even_changed T rates (Period period) a clear coming e =
     let ready : is_ready a.terms.phase ≡ true = grind (arith, nat_tests) in
     even_period T a period ready coming (period_fits T (view a) period clear) e
-even_changed T rates Wait a clear coming e =
-    let ready : is_ready a.terms.phase ≡ true = grind (arith, nat_tests) in
-    let waits : stepped a.terms.phase Waits ≡ Waiting = ap (λ p. stepped p Waits) (ready_when a.terms.phase ready) in
-    even_forgone T (becomes T (view a) Wait) a refl refl (omega arith) (λ is. let z : ◌≡◌ {A = ℕ} 0 1 = cc in absurd (omega arith)) e
-even_changed T rates Wake a clear coming e =
-    let waiting : is_waiting a.terms.phase ≡ true = grind (arith, nat_tests) in
-    let wakes : stepped a.terms.phase Wakes ≡ Ready = ap (λ p. stepped p Wakes) (waiting_when a.terms.phase waiting) in
-    even_forgone T (becomes T (view a) Wake) a refl refl (omega arith) (λ is. let z : ◌≡◌ {A = ℕ} 0 1 = cc in absurd (omega arith)) e
-even_changed T rates Finish a clear coming e = even_forgone T (becomes T (view a) Finish) a refl refl (omega arith) (λ is. refl) e
+even_changed T rates how a clear coming e = grind (arith, nat_tests)
 
 pub even_leaves : (T : ℕ) (a : Ledger) → Even T a → Even T (leaves a)
-even_leaves T a e = record { within = e.within; most = e.most; least = e.least; over = e.over }
+even_leaves T a e = grind (arith, nat_tests)
 
 -- time passes, no later than the deadline
-pub even_passing : (T c : ℕ) (a : Ledger) → T + c ≤ a.terms.deadline → Even T a → Even (T + c) (passing c a)
-even_passing T c a coming e =
-    let R = a.terms.rate in
-    let D = a.terms.deadline in
-    let split : D - T ≡ (D - (T + c)) + c = omega arith in
-    let product : R * (D - T) ≡ R * (D - (T + c)) + R * c = ap (λ n. R * n) split ∙ mul-add R (D - (T + c)) c in
-    let turned : R * c ≡ c * R = mul_comm R c in
-    let most = e.most in
-    let least = e.least in
-    record { within = e.within; most = omega arith; least = omega arith; over = e.over }
+pub even_passing : (T c : ℕ) (x : Option Ledger) → PassedSlot (T + c) (in_slot view x) → EvenSlot T x → EvenSlot (T + c) (in_slot (passing c) x)
+even_passing T c x p e = grind (arith, nat_tests)
 
 -- the turn's task is given ticks that it has left
-pub even_served : (T c : ℕ) (a : Ledger) → c ≤ left_in a.job → Even T a → Even T (served c a)
-even_served T c a few e =
-    let within = e.within in
-    let most = e.most in
-    let least = e.least in
-    record { within = omega arith; most = omega arith; least = omega arith; over = λ is. let none = e.over is in omega arith }
-
--- a ledger at its deadline, with nothing left of the job
-pub record Closed (T : ℕ) (a : Ledger) : Type 0 where
-  pub even : Even T a
-  pub came : a.terms.deadline ≡ T
-  pub none : left_in a.job ≡ 0
-
-closed_spent : (T : ℕ) (a : Ledger) → Even T a → a.terms.deadline ≡ T → Closed T (spent a)
-closed_spent T a e came =
-    let within = e.within in
-    let most = e.most in
-    let least = e.least in
-    record { even = record { within = omega arith; most = omega arith; least = omega arith; over = λ is. omega arith }; came = came; none = omega arith }
-
--- a job that is not waiting is ready or finished
-settled_left : (p : Phase) (n : ℕ) → is_waiting p ≡ false → (is_ready p ≡ true → n ≡ 0) → (p ≡ Finished → n ≡ 0) → n ≡ 0
-settled_left Ready n idle ready over = ready refl
-settled_left Waiting n idle ready over = absurd (true≢false idle)
-settled_left Finished n idle ready over = over refl
-
-closed_due : (T : ℕ) (a : Ledger) → Even T a → a.terms.deadline ≡ T → (is_ready a.terms.phase ≡ true → left_in a.job ≡ 0) → Closed T (due T a)
-closed_due T a e came ready =
-    let p = a.terms.phase in
-    let now' : eqb a.terms.deadline T ≡ true = eq-eqb a.terms.deadline T came in
-    ⊎_elim
-    (λ (waiting : is_waiting p ≡ true). subst (Closed T) (sym (cond-true (eqb a.terms.deadline T && is_waiting p) (spent a) a (and_from (eqb a.terms.deadline T) (is_waiting p) now' waiting))) (closed_spent T a e came))
-    (λ (idle : is_waiting p ≡ false).
-    subst (Closed T) (sym (cond-false (eqb a.terms.deadline T && is_waiting p) (spent a) a (and_right (eqb a.terms.deadline T) (is_waiting p) idle)))
-    (record { even = e; came = came; none = settled_left p (left_in a.job) idle ready e.over }))
-    (cases_Bool (is_waiting p))
-
--- both promises are read off the balance
-closed_paid : (T : ℕ) (a : Ledger) → Closed T a → Paid a
-closed_paid T a k =
-    let came = k.came in
-    let none = k.none in
-    let within = k.even.within in
-    let most = k.even.most in
-    let least = k.even.least in
-    let span : a.terms.deadline - T ≡ 0 = omega arith in
-    let nothing : a.terms.rate * (a.terms.deadline - T) ≡ 0 = ap (λ n. a.terms.rate * n) span ∙ mul-zero a.terms.rate in
-    record { in_full = omega arith; no_more = omega arith; no_less = omega arith }
-
-never_over : (p : Phase) → stepped p Comes ≡ Finished → ⊥
-never_over Ready is = let z : ◌≡◌ {A = ℕ} 0 1 = cc in omega arith
-never_over Waiting is = let z : ◌≡◌ {A = ℕ} 0 1 = cc in omega arith
-never_over Finished is = let z : ◌≡◌ {A = ℕ} 0 1 = cc in omega arith
-
--- the next job starts even
-even_renewed : (T : ℕ) (a : Ledger) → Closed T a → Even T (renewed a)
-even_renewed T a k =
-    let came = k.came in
-    let none = k.none in
-    let most = k.even.most in
-    let least = k.even.least in
-    let R = a.terms.rate in
-    let span : a.terms.deadline - T ≡ 0 = omega arith in
-    let nothing : R * (a.terms.deadline - T) ≡ 0 = ap (λ n. R * n) span ∙ mul-zero R in
-    let next : (a.terms.deadline + a.terms.period) - T ≡ a.terms.period = omega arith in
-    let product : R * ((a.terms.deadline + a.terms.period) - T) ≡ R * a.terms.period = ap (λ n. R * n) next in
-    record { within = omega arith; most = omega arith; least = omega arith; over = λ is. absurd (never_over a.terms.phase is) }
-
-even_follows : (T : ℕ) (a : Ledger) → Closed T a → EvenSlot T (follows T (Some a))
-even_follows T a k =
-    cond_both (eqb a.terms.deadline T) (cond a.terms.leaving None (Some (renewed a))) (Some a) (EvenSlot T)
-    (λ _. cond_both a.terms.leaving None (Some (renewed a)) (EvenSlot T) (λ _. tt) (λ _. even_renewed T a k))
-    (λ _. k.even)
+pub even_served : (T c : ℕ) (x : Option Ledger) → Chargeable c (in_slot view x) → EvenSlot T x → EvenSlot T (in_slot (served c) x)
+even_served T c x able e = grind (arith, nat_tests)
 
 -- what is known of a slot when the clock has come to T
 pub record Coming (T : ℕ) (a : Ledger) : Type 0 where
@@ -228,26 +84,10 @@ abbrev pub ComingSlot : ℕ → Option Ledger → Type 0
 ComingSlot T None = Unit {0}
 ComingSlot T (Some a) = Coming T a
 
-not_due : (T : ℕ) (a : Ledger) → (a.terms.deadline ≡ T → ⊥) → due T a ≡ a
-not_due T a later = cond-false (eqb a.terms.deadline T && is_waiting a.terms.phase) (spent a) a (and_left (eqb a.terms.deadline T) (is_waiting a.terms.phase) (ne_eqb a.terms.deadline T later))
-
 -- every deadline that has come is paid
 pub paid_due : (T : ℕ) (x : Option Ledger) → ComingSlot T x → PaidAt T (in_slot (due T) x)
-paid_due T None k = tt
-paid_due T (Some a) k =
-    ⊎_elim
-    (λ (came : a.terms.deadline ≡ T). λ _. closed_paid T (due T a) (closed_due T a k.even came (k.ready came)))
-    (λ (later : a.terms.deadline ≡ T → ⊥).
-    subst (λ x. PaidAt T (Some x)) (sym (not_due T a later)) (λ early. absurd (later (let coming = k.coming in omega arith))))
-    (cases_eq a.terms.deadline T)
+paid_due T x k = grind (arith, nat_tests)
 
 -- and the balance goes on
 pub even_due : (T : ℕ) (x : Option Ledger) → ComingSlot T x → EvenSlot T (follows T (in_slot (due T) x))
-even_due T None k = tt
-even_due T (Some a) k =
-    ⊎_elim
-    (λ (came : a.terms.deadline ≡ T). even_follows T (due T a) (closed_due T a k.even came (k.ready came)))
-    (λ (later : a.terms.deadline ≡ T → ⊥).
-    subst (λ x. EvenSlot T (follows T (Some x))) (sym (not_due T a later))
-    (subst (EvenSlot T) (sym (cond-false (eqb a.terms.deadline T) (cond a.terms.leaving None (Some (renewed a))) (Some a) (ne_eqb a.terms.deadline T later))) k.even))
-    (cases_eq a.terms.deadline T)
+even_due T x k = grind (arith, nat_tests)

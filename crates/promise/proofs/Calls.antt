@@ -1,5 +1,5 @@
 -- Every call keeps the tasks feasible, and at a deadline nothing is left of a ready job.
-use Rattle.std.proofs.Common.{◌≡◌, ℕ, zero, suc, ◌+◌, ◌-◌, ◌*◌, ◌/◌, ◌^◌, ◌<◌, ◌≤◌, min, Bool, true, false, ltb, [], ◌∷◌, map, length, get_or, set, replicate, is_some, Some, None, Ok, Err, sum_by, Option, Result, sym, refl, ap, ◌∙◌, subst, mul-zero, arith, length-set}
+use Rattle.std.proofs.Common.{◌≡◌, ℕ, ◌+◌, ◌-◌, ◌^◌, ◌<◌, ◌≤◌, Bool, true, false, [], ◌∷◌, length, get_or, set, Some, None, Ok, Err, sum_by, Option, Result, sym, refl, ap, subst, arith, length-set}
 use Rattle.controller.proofs.Settles.{charge_all, in_room, pass_all, runner}
 use Rattle.controller.proofs.Changing.{changed_kept, same_place, there}
 use Rattle.controller.specs.Admitting.{admission_to, is_taken, with_task}
@@ -12,7 +12,7 @@ use Rattle.controller.specs.declared.states.Runs.TheVariants.{Idle, Task as runs
 use Rattle.controller.specs.declared.states.Turn.{Turn}
 use Rattle.order.specs.Orders.{Lawful, in_range}
 use Rattle.order.specs.declared.entries.Entry.{Entry}
-use Rattle.promise.proofs.Steps.{admit_no_worse, gone_no_worse, moved_no_worse, period_no_worse, rate_no_worse, replaced}
+use Rattle.promise.proofs.Steps.{admit_no_worse, period_no_worse, rate_no_worse, replaced}
 use Rattle.promise.proofs.Time.{due_feasible}
 use Rattle.promise.proofs.Turns.{turn_feasible}
 use Rattle.promise.specs.Kept.{AdmissionKeeps, ChangeKeeps, DeadlineIsMet, EmptyIsFeasible, TurnKeeps}
@@ -23,84 +23,50 @@ use Rattle.ready.specs.Held.{Held, Slotted, first_of}
 use Rattle.rules.proofs.Admitting.{admissible, unless_ok}
 use Rattle.rules.proofs.Changing.{period_fits, rate_fits}
 use Rattle.rules.specs.Admission.{admitted, why_not_admitted}
-use Rattle.rules.specs.Jobs.{charged, due_at}
+use Rattle.rules.specs.Jobs.{charged}
 use Rattle.rules.specs.declared.admission.Reservation.{Reservation}
-use Rattle.rules.specs.Changes.{changed, may_lower, moved_by, share, why_not_period, why_not_rate, why_not_ready, why_not_wake, with_period, with_rate, woken}
-use Rattle.rules.specs.Phases.{stepped}
+use Rattle.rules.specs.Changes.{changed, why_not_period, why_not_rate, with_period, with_rate}
 use Rattle.rules.specs.Sound.{Sound}
 use Rattle.rules.specs.Tasks.{is_ready}
-use Rattle.rules.specs.Withdrawals.{goes_at_once, marked, why_not_withdrawn, withdrawn, withdrawn_slot}
+use Rattle.rules.specs.Withdrawals.{withdrawn}
 use Rattle.rules.specs.declared.changes.Change.{Change}
-use Rattle.rules.specs.declared.changes.Change.TheVariants.{Finish as finish, Period as to_period, Rate as to_rate, Wait as wait, Wake as wake}
-use Rattle.rules.specs.declared.phases.Event.TheVariants.{Finish, Wait, Wake}
-use Rattle.rules.specs.declared.phases.Phase.{Phase}
-use Rattle.rules.specs.declared.phases.Phase.TheVariants.{Finished, Ready, Waiting}
+use Rattle.rules.specs.declared.changes.Change.TheVariants.{Period as to_period, Rate as to_rate}
 use Rattle.rules.specs.declared.refusals.Refusal.{Refusal}
 use Rattle.rules.specs.declared.tasks.Task.{Task}
+use Rattle.std.proofs.lemmas.List.Folds.{sum_by-replicate}
 use Rattle.std.proofs.lemmas.List.Sums.{get_or-le-sum_by, sum_by-cons}
-use Rattle.std.proofs.lemmas.Bool.{and_parts, cond_both, cond-false, cond-true, le-ltb, true≢false}
+use Rattle.std.proofs.lemmas.Bool.{le-ltb}
 use Rattle.std.proofs.lemmas.Bool.Decides.{nat_tests}
-
--- a ready task that waits is not ready
-waits : (p : Phase) → is_ready p ≡ true → is_ready (stepped p Wait) ≡ true → ⊥
-waits Ready is after = true≢false (sym after)
-waits Waiting is after = true≢false (sym is)
-waits Finished is after = true≢false (sym is)
-
-ready_from : (t : Task) → why_not_ready t ≡ None → is_ready t.phase ≡ true
-ready_from t is = grind (arith, nat_tests)
 
 -- a change that is accepted makes nothing worse
 change_no_worse : (T rates : ℕ) (t : Task) (change : Change) (u : Task) → Sound T t → changed T rates t change ≡ Ok u → NoWorse T (Some t) (Some u)
 change_no_worse T rates t (to_rate rate) u s is =
     let p = unless_ok (why_not_rate T rates t rate) (with_rate T t rate) u is in
     let clear = p.0 in
-    subst (λ v. NoWorse T (Some t) (Some v)) p.1 (rate_no_worse T rates t rate s (rate_fits T rates t rate clear) (λ low. grind (arith, nat_tests)))
+    rw (← p.1) (rate_no_worse T rates t rate s (rate_fits T rates t rate clear) (λ low. grind (arith, nat_tests)))
 change_no_worse T rates t (to_period period) u s is =
     let p = unless_ok (why_not_period T t period) (with_period t period) u is in
     let clear = p.0 in
-    subst (λ v. NoWorse T (Some t) (Some v)) p.1 (period_no_worse T t period s (period_fits T t period clear) (λ early. grind (arith, nat_tests)))
-change_no_worse T rates t wait u s is =
-    let p = unless_ok (why_not_ready t) (moved_by Wait t.left t) u is in
-    subst (λ v. NoWorse T (Some t) (Some v)) p.1 (moved_no_worse T t Wait t.left (omega arith) (λ after. absurd (waits t.phase (ready_from t p.0) after)))
-change_no_worse T rates t wake u s is =
-    let p = unless_ok (why_not_wake t) (woken T t) u is in
-    subst (λ v. NoWorse T (Some t) (Some v)) p.1 (moved_no_worse T t Wake (min t.left (share T t / 1000)) (omega arith) (λ after. omega arith))
-change_no_worse T rates t finish u s is =
-    let p = unless_ok (why_not_ready t) (moved_by Finish 0 t) u is in
-    subst (λ v. NoWorse T (Some t) (Some v)) p.1 (moved_no_worse T t Finish 0 (omega arith) (λ after. omega arith))
+    rw (← p.1) (period_no_worse T t period s (period_fits T t period clear) (λ early. grind (arith, nat_tests)))
+change_no_worse T rates t change u s is = grind (arith, nat_tests)
 
 -- at its deadline a ready job has nothing left
 no_spare : (T : ℕ) (tasks : Tasks) → sum_by (spare T T) tasks ≡ 0
 no_spare T [] = refl
-no_spare T (None ∷ tasks) = simp sum_by-cons (omega (arith, no_spare T tasks))
-no_spare T (Some t ∷ tasks) =
-    let now' : T - T ≡ 0 = omega arith in
-    let cap : t.rate * (T - T) ≡ 0 = ap (λ n. t.rate * n) now' ∙ mul-zero t.rate in
-    simp sum_by-cons (omega (arith, cap, no_spare T tasks))
+no_spare T (x ∷ tasks) = let none : spare T T x ≡ 0 = grind (arith, nat_tests) in simp sum_by-cons (omega (arith, no_spare T tasks))
 
 pub paid_in_full : (T : ℕ) (tasks : Tasks) → Feasible T tasks → (i : ℕ) (t : Task) → i < length tasks → get_or tasks i None ≡ Some t → t.deadline ≡ T → is_ready t.phase ≡ true → t.left ≡ 0
 paid_in_full T tasks feasible i t lt is due ready =
-    let now' : t.deadline - T ≡ 0 = omega arith in
-    let none' : t.rate * (t.deadline - T) ≡ 0 = ap (λ n. t.rate * n) now' ∙ mul-zero t.rate in
-    let part : owed T T (Some t) ≤ sum_by (owed T T) tasks = subst (λ x. owed T T x ≤ sum_by (owed T T) tasks) is (get_or-le-sum_by (owed T T) tasks i None lt) in
-    let nothing : owed T T (Some t) ≤ 0 = omega (arith, part, feasible T (omega arith), no_spare T tasks) in
+    let same : owed T T (get_or tasks i None) ≡ owed T T (Some t) = rw is in
+    let nothing : owed T T (Some t) ≤ 0 = omega (arith, get_or-le-sum_by (owed T T) tasks i None lt, feasible T (omega arith), no_spare T tasks) in
     grind (arith, nat_tests)
 
-no_owed : (T u n : ℕ) → sum_by (owed T u) (replicate n None) ≡ 0
-no_owed T u zero = refl
-no_owed T u (suc n) = simp sum_by-cons (omega (arith, no_owed T u n))
-
 pub empty_is_feasible : EmptyIsFeasible
-empty_is_feasible u le = omega (arith, no_owed 0 u 64)
+empty_is_feasible u le = omega (arith, sum_by-replicate (owed 0 u) 64 None)
 
 -- a slot that is not taken is empty
 free_slot : (tasks : Tasks) (number : ℕ) → in_range number ≡ true → is_taken tasks number ≡ false → get_or tasks (number - 1) None ≡ None
-free_slot tasks number range free = empty_from (get_or tasks (number - 1) None) (sym (ap is_some (cond-true (in_range number) (get_or tasks (number - 1) None) None range)) ∙ free)
-  where
-    empty_from : (x : Option Task) → is_some x ≡ false → x ≡ None
-    empty_from None is = refl
-    empty_from (Some t) is = absurd (true≢false is)
+free_slot tasks number range free = grind (arith, nat_tests)
 
 pub admitted_feasible : (T : ℕ) (tasks : Tasks) (held : Held) → Tied T tasks held (Unit {0}) → (asked : Reservation) → Feasible T tasks → (r : Result Task Refusal) → admission_to T tasks asked ≡ r → Feasible T (with_task r tasks)
 admitted_feasible T tasks held tied asked feasible (Err why) is = feasible
@@ -109,9 +75,8 @@ admitted_feasible T tasks held tied asked feasible (Ok t) is =
     let a = admissible (is_taken tasks asked.number) (rates tasks) asked p.0 in
     let same : asked.number ≡ t.number = ap (λ u. u.number) p.1 in
     let lt : t.number - 1 < length tasks = omega (arith, tied.mirror.many, number_high [] asked.number (sym a.range), slot_back [] asked.number (sym a.range)) in
-    let free : get_or tasks (t.number - 1) None ≡ None = ap (λ n. get_or tasks (n - 1) None) (sym same) ∙ free_slot tasks asked.number a.range a.free in
-    replaced T tasks (t.number - 1) (Some t) lt
-    (subst (λ x. NoWorse T x (Some t)) (sym free) (subst (λ u. NoWorse T None (Some u)) p.1 (admit_no_worse T asked))) feasible
+    let free : get_or tasks (t.number - 1) None ≡ None = rw (← same) (free_slot tasks asked.number a.range a.free) in
+    replaced T tasks (t.number - 1) (Some t) lt (rw (free, ← p.1) (admit_no_worse T asked)) feasible
 
 pub admission_keeps : AdmissionKeeps
 admission_keeps T tasks held tied asked feasible = admitted_feasible T tasks held tied asked feasible (admission_to T tasks asked) refl
@@ -123,31 +88,28 @@ changed_feasible T tasks held tied number change feasible t at u is =
     let kept = changed_kept T tasks held (Unit {0}) tied number t at change u is in
     let place : number - 1 ≡ u.number - 1 = same_place T tasks held (Unit {0}) tied number t at u kept in
     let lt : u.number - 1 < length tasks = omega (arith, place, h.low, h.high, tied.mirror.many) in
-    let old : get_or tasks (u.number - 1) None ≡ Some t = ap (λ n. get_or tasks n None) (sym place) ∙ h.slot in
-    replaced T tasks (u.number - 1) (Some u) lt (subst (λ x. NoWorse T x (Some u)) (sym old) (change_no_worse T (rates tasks) t change u h.sound is)) feasible
+    let old : get_or tasks (u.number - 1) None ≡ Some t = rw (← place) h.slot in
+    replaced T tasks (u.number - 1) (Some u) lt (rw old (change_no_worse T (rates tasks) t change u h.sound is)) feasible
 
 -- a change, accepted or refused
 change_feasible : (T : ℕ) (tasks : Tasks) (held : Held) (tied : Tied T tasks held (Unit {0})) (number : ℕ) (change : Change) → Feasible T tasks → (o : Option Task) → task_at tasks number ≡ o
     → (r : Result Task Refusal) → on_task o (λ t. changed T (rates tasks) t change) ≡ r → Feasible T (with_task r tasks)
 change_feasible T tasks held tied number change feasible o at (Err why) is = feasible
-change_feasible T tasks held tied number change feasible None at (Ok u) is = let z : ◌≡◌ {A = ℕ} 0 1 = cc in absurd (omega arith)
+change_feasible T tasks held tied number change feasible None at (Ok u) is = absurd cc
 change_feasible T tasks held tied number change feasible (Some t) at (Ok u) is = changed_feasible T tasks held tied number change feasible t at u is
 
 pub change_keeps : ChangeKeeps
 change_keeps T tasks held tied number change feasible = change_feasible T tasks held tied number change feasible (task_at tasks number) refl (change_at T tasks number change) refl
 
 withdrawn_no_worse : (T : ℕ) (t : Task) (slot : Option Task) → withdrawn T t ≡ Ok slot → NoWorse T (Some t) slot
-withdrawn_no_worse T t slot is =
-    let p = unless_ok (why_not_withdrawn t) (withdrawn_slot T t) slot is in
-    subst (NoWorse T (Some t)) p.1
-    (cond_both (goes_at_once T t) None (Some (marked t)) (NoWorse T (Some t)) (λ once. gone_no_worse T t (and_parts (is_ready t.phase) (may_lower T t) once).1) (λ later u le. omega arith))
+withdrawn_no_worse T t slot is = grind (arith, nat_tests)
 
 pub withdrawn_feasible : (T : ℕ) (tasks : Tasks) (held : Held) (tied : Tied T tasks held (Unit {0})) (number : ℕ) → Feasible T tasks → (t : Task) → task_at tasks number ≡ Some t
     → (slot : Option Task) → withdrawn T t ≡ Ok slot → Feasible T (set tasks (number - 1) slot)
 withdrawn_feasible T tasks held tied number feasible t at slot is =
     let h = there T tasks held (Unit {0}) tied number t at in
     let lt : number - 1 < length tasks = omega (arith, h.low, h.high, tied.mirror.many) in
-    replaced T tasks (number - 1) slot lt (subst (λ x. NoWorse T x slot) (sym h.slot) (withdrawn_no_worse T t slot is)) feasible
+    replaced T tasks (number - 1) slot lt (rw h.slot (withdrawn_no_worse T t slot is)) feasible
 
 module _ (before : Entry → Entry → Bool) (laws : Lawful before) (turn : Turn) (tasks : Tasks) (held : Held) (slots : Slotted held) (opened : Open before turn tasks held (Unit {0})) (c : ℕ) (few : c ≤ turn.length) (feasible : Feasible turn.start tasks) where
   pub charged_feasible : Feasible (turn.start + c) (charged_in turn.runs c tasks)
@@ -161,7 +123,7 @@ module _ (before : Entry → Entry → Bool) (laws : Lawful before) (turn : Turn
       let T = turn.start + c in
       let passed = charge_all T c turn.runs tasks opened.rest.mirror.many (runner before laws turn tasks held (Unit {0}) opened slots c few)
       (pass_all turn.start c (2 ^ 40) tasks (in_room before laws turn tasks held (Unit {0}) opened slots c few) opened.rest.sound) in
-      subst (Feasible T) (sym (cond-false (ltb turn.length c) tasks (map (due_at T) (charged_in turn.runs c tasks)) (le-ltb turn.length c few)))
+      rw (le-ltb turn.length c few)
       (due_feasible T (charged_in turn.runs c tasks) passed charged_feasible)
 
 pub turn_keeps : TurnKeeps

@@ -1,5 +1,5 @@
 -- Every call leaves the controller tied to its memory and its tasks feasible, over any list and any lawful order.
-use Rattle.std.proofs.Common.{◌≡◌, ℕ, ◌+◌, ◌-◌, ◌<◌, ◌≤◌, Bool, [], map, length, get_or, set, Some, None, Ok, Err, Option, Result, sym, refl, ap, ◌∙◌, subst, arith}
+use Rattle.std.proofs.Common.{◌≡◌, ℕ, ◌+◌, ◌-◌, ◌<◌, ◌≤◌, Bool, [], map, length, get_or, set, Some, None, Ok, Err, Option, Result, sym, refl, ap, ◌∙◌, arith}
 use lib.ListN.{length-map}
 use Rattle.controller.proofs.Admits.{admit_tied, cleared_tied}
 use Rattle.controller.proofs.Changing.{changed_kept, in_place, same_place, slot_tied, withdrawal_kept}
@@ -8,7 +8,7 @@ use Rattle.controller.proofs.Settles.{runner, settled_tied}
 use Rattle.controller.specs.Admitting.{admission_to, is_taken, with_task}
 use Rattle.controller.specs.Changing.{on_task, task_at}
 use Rattle.controller.specs.Settling.{Runner, charged_in, settled_tasks}
-use Rattle.controller.specs.Tasks.{Fits, InSlot, Mirrors, Tasks, no_tasks, rates}
+use Rattle.controller.specs.Tasks.{InSlot, Mirrors, Tasks, no_tasks, rates}
 use Rattle.controller.specs.Tied.{Open, Tied}
 use Rattle.controller.specs.Withdrawing.{with_slot}
 use Rattle.controller.specs.declared.states.Runs.{Runs}
@@ -21,6 +21,7 @@ use Rattle.promise.specs.Feasible.{Feasible}
 use Rattle.ready.proofs.Slots.{slot_back}
 use Rattle.ready.specs.Held.{Slotted}
 use Rattle.rules.proofs.Admitting.{admissible, unless_ok}
+use Rattle.rules.proofs.Changing.{KeptSlot}
 use Rattle.rules.specs.Admission.{admitted, why_not_admitted}
 use Rattle.rules.specs.Changes.{changed}
 use Rattle.rules.specs.Jobs.{charged, due_at}
@@ -31,7 +32,7 @@ use Rattle.rules.specs.declared.changes.Change.{Change}
 use Rattle.rules.specs.declared.refusals.Refusal.{Refusal}
 use Rattle.rules.specs.declared.tasks.Task.{Task}
 use Rattle.std.proofs.lemmas.List.{get_or-map, map-set}
-use Rattle.std.proofs.lemmas.Bool.{cond-false, le-ltb}
+use Rattle.std.proofs.lemmas.Bool.{le-ltb}
 
 pub record Good (T : ℕ) (tasks : Tasks) : Type 0 where
   pub tied : Tied T tasks (map entry_of tasks) (Unit {0})
@@ -44,18 +45,14 @@ mirror_slotted tasks m =
       many = length-map tasks entry_of ∙ m.many;
       placed = λ k e lt is.
           let lt' : k < length tasks = omega (arith, length-map tasks entry_of) in
-          let slot = get_or tasks k None in
-          let here : entry_of slot ≡ Some e = sym (get_or-map entry_of tasks k None None lt') ∙ is in
-          numbered k (entry_of slot) e here (fits_entry k slot (in_slot_at tasks (map entry_of tasks) k (omega (arith, m.many)) m));
+          let here : entry_of (get_or tasks k None) ≡ Some e = rw (← get_or-map entry_of tasks k None None lt') is in
+          rw here at (fits_entry k (get_or tasks k None) (in_slot_at tasks (map entry_of tasks) k (omega (arith, m.many)) m));
     }
-  where
-    numbered : (k : ℕ) (x : Option Entry) (e : Entry) → x ≡ Some e → Fits (k + 1) x → e.number ≡ k + 1
-    numbered k x e is fits = subst (Fits (k + 1)) is fits
 
 set_mirrors : (tasks : Tasks) (place : ℕ) (new : Option Task) → Mirrors tasks (map entry_of tasks) → InSlot place new → Mirrors (set tasks place new) (map entry_of (set tasks place new))
 set_mirrors tasks place new m fits =
     mirror_set tasks (map entry_of tasks) (map entry_of (set tasks place new)) place new (entry_of new) m fits refl
-    (map-set entry_of tasks place new ∙ ap (λ n. set (map entry_of tasks) n (entry_of new)) (sym (place_back place)))
+    (rw (map-set entry_of tasks place new, place_back place))
 
 pub good_none : Good 0 no_tasks
 good_none = record { tied = cleared_tied (map entry_of no_tasks) (Unit {0}) refl tt; feasible = empty_is_feasible }
@@ -67,42 +64,42 @@ good_admitted T tasks asked g (Ok t) is =
     let p = unless_ok (why_not_admitted (is_taken tasks asked.number) (rates tasks) asked) (admitted T asked) t is in
     let a = admissible (is_taken tasks asked.number) (rates tasks) asked p.0 in
     let same : asked.number ≡ t.number = ap (λ u. u.number) p.1 in
-    let fits : t.number ≡ t.number - 1 + 1 = subst (λ n. n ≡ n - 1 + 1) same (slot_back [] asked.number (sym a.range)) in
+    let fits : t.number ≡ t.number - 1 + 1 = rw same at (slot_back [] asked.number (sym a.range)) in
     let after = set tasks (t.number - 1) (Some t) in
     record {
       tied = admit_tied T tasks (map entry_of tasks) (map entry_of after) (Unit {0}) (Unit {0}) asked t g.tied is (set_mirrors tasks (t.number - 1) (Some t) g.tied.mirror fits) tt;
       feasible = admitted_feasible T tasks (map entry_of tasks) g.tied asked g.feasible (Ok t) is;
     }
 
+-- the slot of a number, written anew
+good_slot : (T : ℕ) (tasks : Tasks) (number : ℕ) (t : Task) → Good T tasks → task_at tasks number ≡ Some t → (new : Option Task) → KeptSlot T (rates tasks) t new
+    → Feasible T (set tasks (number - 1) new) → Good T (set tasks (number - 1) new)
+good_slot T tasks number t g at new kept feasible =
+    let held = map entry_of tasks in
+    let fits = (in_place T tasks held (Unit {0}) g.tied number t at new kept).1 in
+    record {
+      tied = slot_tied T tasks held (Unit {0}) g.tied number t at new kept (map entry_of (set tasks (number - 1) new)) (Unit {0}) (set_mirrors tasks (number - 1) new g.tied.mirror fits) tt;
+      feasible = feasible;
+    }
+
 -- a change under way
 pub good_changed : (T : ℕ) (tasks : Tasks) (number : ℕ) (how : Change) → Good T tasks → (o : Option Task) → task_at tasks number ≡ o → (r : Result Task Refusal)
     → on_task o (λ t. changed T (rates tasks) t how) ≡ r → Good T (with_task r tasks)
 good_changed T tasks number how g o at (Err why) is = g
-good_changed T tasks number how g None at (Ok u) is = let z : ◌≡◌ {A = ℕ} 0 1 = cc in absurd (omega arith)
+good_changed T tasks number how g None at (Ok u) is = absurd cc
 good_changed T tasks number how g (Some t) at (Ok u) is =
     let held = map entry_of tasks in
     let kept = changed_kept T tasks held (Unit {0}) g.tied number t at how u is in
-    let place : number - 1 ≡ u.number - 1 = same_place T tasks held (Unit {0}) g.tied number t at u kept in
-    let after = set tasks (number - 1) (Some u) in
-    let fits = (in_place T tasks held (Unit {0}) g.tied number t at (Some u) kept).1 in
-    record {
-      tied = subst (λ n. Tied T (set tasks n (Some u)) (map entry_of (set tasks n (Some u))) (Unit {0})) place
-          (slot_tied T tasks held (Unit {0}) g.tied number t at (Some u) kept (map entry_of after) (Unit {0}) (set_mirrors tasks (number - 1) (Some u) g.tied.mirror fits) tt);
-      feasible = changed_feasible T tasks held g.tied number how g.feasible t at u is;
-    }
+    let place = same_place T tasks held (Unit {0}) g.tied number t at u kept in
+    rw (← place) (good_slot T tasks number t g at (Some u) kept (rw place (changed_feasible T tasks held g.tied number how g.feasible t at u is)))
 
 -- a withdrawal
 pub good_withdrawn : (T : ℕ) (tasks : Tasks) (number : ℕ) → Good T tasks → (o : Option Task) → task_at tasks number ≡ o → (r : Result (Option Task) Refusal) → on_task o (withdrawn T) ≡ r → Good T (with_slot number r tasks)
 good_withdrawn T tasks number g o at (Err why) is = g
-good_withdrawn T tasks number g None at (Ok slot) is = let z : ◌≡◌ {A = ℕ} 0 1 = cc in absurd (omega arith)
+good_withdrawn T tasks number g None at (Ok slot) is = absurd cc
 good_withdrawn T tasks number g (Some t) at (Ok slot) is =
     let held = map entry_of tasks in
-    let kept = withdrawal_kept T tasks held (Unit {0}) g.tied number t at slot is in
-    let fits = (in_place T tasks held (Unit {0}) g.tied number t at slot kept).1 in
-    record {
-      tied = slot_tied T tasks held (Unit {0}) g.tied number t at slot kept (map entry_of (set tasks (number - 1) slot)) (Unit {0}) (set_mirrors tasks (number - 1) slot g.tied.mirror fits) tt;
-      feasible = withdrawn_feasible T tasks held g.tied number g.feasible t at slot is;
-    }
+    good_slot T tasks number t g at slot (withdrawal_kept T tasks held (Unit {0}) g.tied number t at slot is) (withdrawn_feasible T tasks held g.tied number g.feasible t at slot is)
 
 charge_mirrors : (runs : Runs) (c : ℕ) (tasks : Tasks) → Runner runs c tasks → Mirrors tasks (map entry_of tasks) → Mirrors (charged_in runs c tasks) (map entry_of (charged_in runs c tasks))
 charge_mirrors Idle c tasks r m = m
@@ -116,9 +113,8 @@ due_mirrors T tasks m =
       many = length-map tasks (due_at T) ∙ m.many;
       placed = λ k t lt is.
           let lt' : k < length tasks = omega (arith, length-map tasks (due_at T)) in
-          let slot = get_or tasks k None in
-          let here : due_at T slot ≡ Some t = sym (get_or-map (due_at T) tasks k None None lt') ∙ is in
-          subst (InSlot k) here (in_slot_due T k slot (in_slot_at tasks (map entry_of tasks) k (omega (arith, m.many)) m));
+          let here : due_at T (get_or tasks k None) ≡ Some t = rw (← get_or-map (due_at T) tasks k None None lt') is in
+          rw here at (in_slot_due T k (get_or tasks k None) (in_slot_at tasks (map entry_of tasks) k (omega (arith, m.many)) m));
       same = refl;
     }
 
@@ -131,9 +127,8 @@ module _ (before : Entry → Entry → Bool) (laws : Lawful before) (turn : Turn
       let slots = mirror_slotted tasks m in
       let r = runner before laws turn tasks (map entry_of tasks) (Unit {0}) opened slots c few in
       let out = map (due_at T) (charged_in turn.runs c tasks) in
-      let whole : settled_tasks turn c tasks ≡ out = cond-false _ tasks out (le-ltb turn.length c few) in
       record {
-        tied = subst (λ ts. Tied T ts (map entry_of ts) (Unit {0})) (sym whole)
+        tied = rw (le-ltb turn.length c few)
             (settled_tied before laws turn tasks (map entry_of tasks) (Unit {0}) opened slots c few (map entry_of out) (Unit {0}) (due_mirrors T (charged_in turn.runs c tasks) (charge_mirrors turn.runs c tasks r m)) tt);
         feasible = settled_feasible before laws turn tasks (map entry_of tasks) slots opened c few feasible;
       }

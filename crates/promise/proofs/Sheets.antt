@@ -1,5 +1,5 @@
 -- The tasks that a sheet makes: tied, feasible, and with nothing run yet.
-use Rattle.std.proofs.Common.{◌≡◌, ℕ, zero, suc, ◌+◌, ◌-◌, List, set, replicate, Some, None, Ok, Err, Option, Result, refl, subst}
+use Rattle.std.proofs.Common.{◌≡◌, ℕ, zero, suc, ◌+◌, ◌-◌, List, set, replicate, Some, None, Ok, Err, Option, Result, refl, arith}
 use Rattle.controller.specs.Admitting.{admission_to, is_taken}
 use Rattle.controller.specs.Making.{enrolled, joined, made, made_tasks, reservation}
 use Rattle.controller.specs.Tasks.{Tasks, no_tasks, rates}
@@ -17,6 +17,7 @@ use Rattle.sheet.specs.Records.{TaskValue, note, task}
 use Rattle.sheet.specs.Sheets.{Sheet, sheet_of}
 use Rattle.std.proofs.ByRecursion.{All-set}
 use Rattle.std.specs.List.{AllByRecursion}
+use Rattle.std.proofs.lemmas.Bool.Decides.{nat_tests}
 
 -- a task whose first job was released at T
 pub record Fresh (T : ℕ) (t : Task) : Type 0 where
@@ -30,7 +31,7 @@ FreshSlot T None = Unit {0}
 FreshSlot T (Some t) = Fresh T t
 
 pub admitted_fresh : (T : ℕ) (asked : Reservation) → Fresh T (admitted T asked)
-admitted_fresh T asked = record { ran = refl; left = refl; deadline = refl; phase = refl }
+admitted_fresh T asked = grind (arith, nat_tests)
 
 pub record Enrolled (tasks : Tasks) : Type 0 where
   pub good : Good 0 tasks
@@ -49,7 +50,7 @@ one_more tasks asked rest b later (Ok t) is =
     later (set tasks (t.number - 1) (Some t))
     (record {
       good = good_admitted 0 tasks r b.good (Ok t) is;
-      fresh = All-set (FreshSlot 0) tasks (t.number - 1) (Some t) (subst (Fresh 0) p.1 (admitted_fresh 0 r)) b.fresh;
+      fresh = All-set (FreshSlot 0) tasks (t.number - 1) (Some t) (rw (← p.1) (admitted_fresh 0 r)) b.fresh;
     })
 
 all_more : (tasks : Tasks) (sheet : Sheet) → Enrolled tasks → EnrolledOr (enrolled tasks sheet)
@@ -58,12 +59,13 @@ all_more tasks (broken fault) b = tt
 all_more tasks (entry (note text) rest) b = all_more tasks rest b
 all_more tasks (entry (task asked) rest) b = one_more tasks asked rest b (λ next n. all_more next rest n) (admission_to 0 tasks (reservation asked)) refl
 
-none_fresh : (n : ℕ) → AllByRecursion (FreshSlot 0) (replicate n None)
-none_fresh zero = tt
-none_fresh (suc n) = (tt, none_fresh n)
+-- what holds of one slot holds of as many like it
+pub all_alike : {A : Type 0} (P : Option A → Type 0) → P None → (n : ℕ) → AllByRecursion P (replicate n None)
+all_alike P one zero = tt
+all_alike P one (suc n) = (one, all_alike P one n)
 
 none_enrolled : Enrolled no_tasks
-none_enrolled = record { good = good_none; fresh = none_fresh 64 }
+none_enrolled = record { good = good_none; fresh = all_alike (FreshSlot 0) tt 64 }
 
 or_none : (r : Result Tasks SheetFault) → EnrolledOr r → Enrolled (made_tasks r)
 or_none (Ok tasks) b = b

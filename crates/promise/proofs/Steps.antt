@@ -1,21 +1,22 @@
 -- Each change of one task makes nothing worse.
-use Rattle.std.proofs.Common.{◌≡◌, ℕ, ◌+◌, ◌-◌, ◌*◌, ◌<◌, ◌≤◌, true, false, eqb, length, get_or, set, Some, None, Option, sym, ap, ◌∙◌, ⊎_elim, mul-le-mul_right, add-mul, mul-le-mul_left, mul-zero, mul-add, arith}
+use Rattle.std.proofs.Common.{◌≡◌, ℕ, ◌+◌, ◌-◌, ◌*◌, ◌<◌, ◌≤◌, true, length, get_or, set, Some, None, Option, ⊎_elim, mul-le-mul_right, mul-le-mul_left, mul-add, arith}
 use Rattle.controller.specs.Tasks.{Tasks}
 use Rattle.promise.specs.Feasible.{Feasible, NoWorse, owed, spare}
 use Rattle.rules.proofs.Changing.{PeriodFits, RateFits}
 use Rattle.rules.specs.Admission.{admitted}
-use Rattle.rules.specs.Changes.{deadline_at, may_lower, moved_by, share, with_period, with_rate}
+use Rattle.rules.specs.Changes.{deadline_at, may_lower, share, with_period, with_rate}
 use Rattle.rules.specs.Sound.{Sound}
 use Rattle.rules.specs.declared.admission.Reservation.{Reservation}
 use Rattle.rules.proofs.Passing.{Passed}
-use Rattle.rules.specs.Jobs.{after_deadline, due_at, next_job}
-use Rattle.rules.specs.Phases.{stepped}
-use Rattle.rules.specs.Tasks.{is_ready}
-use Rattle.rules.specs.declared.phases.Event.{Event}
+use Rattle.rules.specs.Jobs.{due_at}
 use Rattle.rules.specs.declared.tasks.Task.{Task}
 use Rattle.std.proofs.lemmas.List.Sums.{sum_by-set}
-use Rattle.std.proofs.lemmas.Bool.{cases_Bool, cases_lt, cond_both, eqb-true}
+use Rattle.std.proofs.lemmas.Bool.{cases_lt}
 use Rattle.std.proofs.lemmas.Bool.Decides.{nat_tests}
+
+-- equal sums, taken so many times
+pub same_times : (n a b c d : ℕ) → a + b ≡ c + d → n * a + n * b ≡ n * c + n * d
+same_times n a b c d sums = rw (← mul-add n a b, sums, mul-add n c d)
 
 -- a slot that is no worse than another may stand in its place
 pub replaced : (T : ℕ) (tasks : Tasks) (i : ℕ) (new : Option Task) → i < length tasks → NoWorse T (get_or tasks i None) new → Feasible T tasks → Feasible T (set tasks i new)
@@ -24,24 +25,16 @@ replaced T tasks i new lt step feasible u le =
 
 -- a new task is neither behind nor ahead
 pub admit_no_worse : (T : ℕ) (asked : Reservation) → NoWorse T None (Some (admitted T asked))
-admit_no_worse T asked u le =
-    let span : (T + asked.period) - T ≡ asked.period = omega arith in
-    let product : asked.rate * ((T + asked.period) - T) ≡ asked.rate * asked.period = ap (λ n. asked.rate * n) span in
-    grind (arith, nat_tests)
+admit_no_worse T asked u le = grind (arith, nat_tests)
 
 -- a rate that fits, lowered only where that is allowed
 pub rate_no_worse : (T rates : ℕ) (t : Task) (rate : ℕ) → Sound T t → RateFits T rates t rate → (rate < t.rate → may_lower T t ≡ true) → NoWorse T (Some t) (Some (with_rate T t rate))
 rate_no_worse T rates t rate s f allowed u le =
-    let R = t.rate in
-    let span = t.deadline - T in
-    let sums : rate + (R - rate) ≡ R + (rate - R) = omega arith in
-    let products : rate * span + (R - rate) * span ≡ R * span + (rate - R) * span =
-    sym (add-mul rate (R - rate) span) ∙ (ap (λ n. n * span) sums ∙ add-mul R (rate - R) span) in
-    let enough = f.enough in
+    let products = same_times (t.deadline - T) rate (t.rate - rate) t.rate (rate - t.rate) (omega arith) in
     ⊎_elim
-    (λ (low : rate < R). let may = allowed low in grind (arith, nat_tests))
-    (λ (high : R ≤ rate). let cap : R * (u - T) ≤ rate * (u - T) = mul-le-mul_right (u - T) high in grind (arith, nat_tests))
-    (cases_lt rate R)
+    (λ (low : rate < t.rate). let may = allowed low in grind (arith, nat_tests))
+    (λ (high : t.rate ≤ rate). let cap : t.rate * (u - T) ≤ rate * (u - T) = mul-le-mul_right (u - T) high in grind (arith, nat_tests))
+    (cases_lt rate t.rate)
 
 -- a period that fits, shorter only where the job is not behind
 pub period_no_worse : (T : ℕ) (t : Task) (period : ℕ) → Sound T t → PeriodFits T t period → (deadline_at t period < t.deadline → 1000 * t.left ≤ share T t) → NoWorse T (Some t) (Some (with_period t period))
@@ -49,10 +42,7 @@ period_no_worse T t period s f allowed u le =
     let R = t.rate in
     let D = t.deadline in
     let E = deadline_at t period in
-    let spans : (E - T) + (D - E) ≡ (D - T) + (E - D) = omega (arith, s.coming, f.after) in
-    let products : R * (E - T) + R * (D - E) ≡ R * (D - T) + R * (E - D) =
-    sym (mul-add R (E - T) (D - E)) ∙ (ap (λ n. R * n) spans ∙ mul-add R (D - T) (E - D)) in
-    let enough = f.enough in
+    let products = same_times R (E - T) (D - E) (D - T) (E - D) (omega (arith, s.coming, f.after)) in
     ⊎_elim
     (λ (early : E < D). let may = allowed early in grind (arith, nat_tests))
     (λ (late : D ≤ E). ⊎_elim
@@ -61,27 +51,6 @@ period_no_worse T t period s f allowed u le =
     (cases_lt u D))
     (cases_lt E D)
 
--- fewer ticks left, and not behind after it: a task that waits, wakes or finishes
-pub moved_no_worse : (T : ℕ) (t : Task) (event : Event) (left : ℕ) → left ≤ t.left → (is_ready (stepped t.phase event) ≡ true → 1000 * left ≤ share T t) → NoWorse T (Some t) (Some (moved_by event left t))
-moved_no_worse T t event left less even u le =
-    ⊎_elim
-    (λ (ready : is_ready (stepped t.phase event) ≡ true). let few = even ready in grind (arith, nat_tests))
-    (λ (not' : is_ready (stepped t.phase event) ≡ false). grind (arith, nat_tests))
-    (cases_Bool (is_ready (stepped t.phase event)))
-
--- a task that may be lowered may go at once
-pub gone_no_worse : (T : ℕ) (t : Task) → may_lower T t ≡ true → NoWorse T (Some t) None
-gone_no_worse T t may u le = grind (arith, nat_tests)
-
 -- a deadline that has come: what is left of the job is dropped, and the next one starts even
 pub due_no_worse : (T : ℕ) (t : Task) → Passed T t → NoWorse T (Some t) (due_at T (Some t))
-due_no_worse T t p u le =
-    let P : Option Task → Type 0 = λ y. owed T u y + spare T u (Some t) ≤ owed T u (Some t) + spare T u y in
-    cond_both (eqb t.deadline T) (after_deadline t) (Some t) P
-    (λ e. let now' = eqb-true t.deadline T e in
-    let none' : t.deadline - T ≡ 0 = omega arith in
-    let nothing : t.rate * (t.deadline - T) ≡ 0 = ap (λ n. t.rate * n) none' ∙ mul-zero t.rate in
-    let span : (t.deadline + t.period) - T ≡ t.period = omega arith in
-    let product : t.rate * ((t.deadline + t.period) - T) ≡ t.rate * t.period = ap (λ n. t.rate * n) span in
-    cond_both t.leaving None (Some (next_job t)) P (λ _. grind (arith, nat_tests)) (λ _. grind (arith, nat_tests)))
-    (λ e. omega arith)
+due_no_worse T t p u le = grind (arith, nat_tests)

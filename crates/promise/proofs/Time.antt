@@ -1,14 +1,13 @@
 -- Time passes: what is owed grows by no more than the rates, and the turn's task is given a thousand for each tick.
-use Rattle.std.proofs.Common.{◌≡◌, ℕ, ◌+◌, ◌-◌, ◌*◌, ◌<◌, ◌≤◌, true, false, [], ◌∷◌, map, Some, None, sum_by, Option, refl, ap, ◌∙◌, ⊎_elim, mul_comm, mul-le-mul_left, mul-add, arith}
+use Rattle.std.proofs.Common.{◌≡◌, ℕ, ◌+◌, ◌-◌, ◌*◌, ◌<◌, ◌≤◌, true, [], ◌∷◌, map, Some, None, sum_by, Option, refl, mul-add, arith}
 use Rattle.controller.proofs.Settles.{PassedSlot}
 use Rattle.controller.specs.Tasks.{Tasks, rates}
-use Rattle.promise.proofs.Steps.{due_no_worse}
+use Rattle.promise.proofs.Steps.{due_no_worse, same_times}
 use Rattle.promise.specs.Feasible.{Feasible, NoWorse, owed, spare}
 use Rattle.rules.specs.Jobs.{charged, due_at}
 use Rattle.rules.specs.Tasks.{is_ready, rate_of, wants_to_run}
 use Rattle.rules.specs.declared.tasks.Task.{Task}
 use Rattle.std.proofs.lemmas.List.Sums.{sum_by-cons}
-use Rattle.std.proofs.lemmas.Bool.{cases_Bool}
 use Rattle.std.proofs.lemmas.Bool.Decides.{nat_tests}
 use Rattle.std.specs.List.{AllByRecursion}
 
@@ -16,21 +15,14 @@ use Rattle.std.specs.List.{AllByRecursion}
 drift : (T c u : ℕ) (t : Task) → T + c ≤ t.deadline → T + c ≤ u
     → owed (T + c) u (Some t) + spare T u (Some t) ≤ owed T u (Some t) + spare (T + c) u (Some t) + c * t.rate
 drift T c u t due le =
-    let R = t.rate in
-    let D = t.deadline in
-    let toD : D - T ≡ (D - (T + c)) + c = omega arith in
-    let shares : R * (D - T) ≡ R * (D - (T + c)) + R * c = ap (λ n. R * n) toD ∙ mul-add R (D - (T + c)) c in
-    let toU : u - T ≡ (u - (T + c)) + c = omega arith in
-    let caps : R * (u - T) ≡ R * (u - (T + c)) + R * c = ap (λ n. R * n) toU ∙ mul-add R (u - (T + c)) c in
-    let turned : R * c ≡ c * R = mul_comm R c in
+    let shares = same_times t.rate (t.deadline - T) 0 (t.deadline - (T + c)) c (omega arith) in
+    let caps = same_times t.rate (u - T) 0 (u - (T + c)) c (omega arith) in
     grind (arith, nat_tests)
 
 -- a ready task is charged c of the ticks that it has left
 pub charge : (T c u : ℕ) (t : Task) → T ≤ t.deadline → t.deadline ≤ u → c ≤ t.left → is_ready t.phase ≡ true
     → owed T u (charged c (Some t)) + spare T u (Some t) + 1000 * c ≤ owed T u (Some t) + spare T u (charged c (Some t))
-charge T c u t due le few ready =
-    let cap : t.rate * (t.deadline - T) ≤ t.rate * (u - T) = mul-le-mul_left t.rate (omega arith) in
-    grind (arith, nat_tests)
+charge T c u t due le few ready = grind (arith, nat_tests)
 
 drift_slot : (T c u : ℕ) (x : Option Task) → PassedSlot (T + c) x → T + c ≤ u → owed (T + c) u x + spare T u x ≤ owed T u x + spare (T + c) u x + c * rate_of x
 drift_slot T c u None p le = omega arith
@@ -41,8 +33,7 @@ pub drift_all : (T c u : ℕ) (tasks : Tasks) → AllByRecursion (PassedSlot (T 
     → sum_by (owed (T + c) u) tasks + sum_by (spare T u) tasks ≤ sum_by (owed T u) tasks + sum_by (spare (T + c) u) tasks + c * rates tasks
 drift_all T c u [] all le = omega arith
 drift_all T c u (x ∷ tasks) all le =
-    let product : c * (rate_of x + rates tasks) ≡ c * rate_of x + c * rates tasks = mul-add c (rate_of x) (rates tasks) in
-    simp sum_by-cons (omega (arith, product, drift_slot T c u x all.0 le, drift_all T c u tasks all.1 le))
+    simp sum_by-cons (omega (arith, mul-add c (rate_of x) (rates tasks), drift_slot T c u x all.0 le, drift_all T c u tasks all.1 le))
 
 -- a slot that is owed nothing by u: its task does not want to run, or its deadline is later
 abbrev pub Quiet : ℕ → Option Task → Type 0
@@ -50,12 +41,7 @@ Quiet u None = Unit {0}
 Quiet u (Some t) = wants_to_run t ≡ true → u < t.deadline
 
 quiet_slot : (T u : ℕ) (x : Option Task) → Quiet u x → owed T u x ≡ 0
-quiet_slot T u None q = refl
-quiet_slot T u (Some t) q =
-    ⊎_elim
-    (λ (want : wants_to_run t ≡ true). let later = q want in grind (arith, nat_tests))
-    (λ (want : wants_to_run t ≡ false). grind (arith, nat_tests))
-    (cases_Bool (wants_to_run t))
+quiet_slot T u x q = grind (arith, nat_tests)
 
 pub quiet_all : (T u : ℕ) (tasks : Tasks) → AllByRecursion (Quiet u) tasks → sum_by (owed T u) tasks ≡ 0
 quiet_all T u [] all = refl

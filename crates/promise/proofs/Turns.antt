@@ -1,5 +1,5 @@
 -- A turn keeps the tasks feasible, over any ready list and any lawful tie order.
-use Rattle.std.proofs.Common.{◌≡◌, ℕ, ◌+◌, ◌-◌, ◌*◌, ◌<◌, ◌≤◌, Bool, true, false, not, ltb, length, get_or, set, Some, None, sum_by, Option, sym, refl, ap, ◌∙◌, subst, ⊎_elim, mul_comm, mul-le-mul_left, arith}
+use Rattle.std.proofs.Common.{◌≡◌, ℕ, ◌+◌, ◌-◌, ◌<◌, ◌≤◌, Bool, true, length, get_or, set, Some, None, sum_by, Option, sym, refl, ap, subst, ⊎_elim, mul-le-mul_left, arith}
 use Rattle.controller.proofs.Lists.{mirror_entry}
 use Rattle.controller.proofs.Settles.{PassedSlot}
 use Rattle.controller.specs.Settling.{charged_in}
@@ -19,59 +19,30 @@ use Rattle.rules.specs.declared.tasks.Task.{Task}
 use Rattle.std.proofs.ByRecursion.{All-from_get_or, All-get_or, All-set}
 use Rattle.std.proofs.lemmas.List.{get_or-map}
 use Rattle.std.proofs.lemmas.List.Sums.{sum_by-set}
-use Rattle.std.proofs.lemmas.Bool.{and_parts, cases_Bool, cases_eq, cases_lt, cond-false, cond-true, true≢false}
+use Rattle.std.proofs.lemmas.Bool.{cases_lt}
+use Rattle.std.proofs.lemmas.Bool.Decides.{nat_tests}
 use Rattle.std.specs.List.{AllByRecursion}
-
-some_deadline : (a b : Entry) → Some a ≡ Some b → a.deadline ≡ b.deadline
-some_deadline a b is = let s : a ≡ b = cc in ap (λ x. x.deadline) s
 
 -- by a time after its deadline: all drift, and the turn's task is charged
 turn_late : (T c u : ℕ) (tasks : Tasks) (i : ℕ) (t : Task) → i < length tasks → get_or tasks i None ≡ Some t → wants_to_run t ≡ true → c ≤ t.left → T + c ≤ t.deadline → t.deadline ≤ u
     → AllByRecursion (PassedSlot (T + c)) tasks → rates tasks ≤ 1000 → Feasible T tasks
     → sum_by (owed (T + c) u) (set tasks i (charged c (Some t))) ≤ sum_by (spare (T + c) u) (set tasks i (charged c (Some t)))
 turn_late T c u tasks i t lt is want few due late passed shared feasible =
-    let ready : is_ready t.phase ≡ true = (and_parts (is_ready t.phase) (ltb 0 t.left) want).0 in
-    let most : c * rates tasks ≤ c * 1000 = mul-le-mul_left c shared in
-    let turned : c * 1000 ≡ 1000 * c = mul_comm c 1000 in
-    let oldOwed : owed (T + c) u (get_or tasks i None) ≡ owed (T + c) u (Some t) = ap (owed (T + c) u) is in
-    let oldSpare : spare (T + c) u (get_or tasks i None) ≡ spare (T + c) u (Some t) = ap (spare (T + c) u) is in
-    omega (
-      arith,
-      feasible u (omega arith),
-      drift_all T c u tasks passed (omega arith),
-      charge (T + c) c u t due late few ready,
-      most,
-      turned,
-      sum_by-set (owed (T + c) u) tasks i (charged c (Some t)) None lt,
-      oldOwed,
-      sum_by-set (spare (T + c) u) tasks i (charged c (Some t)) None lt,
-      oldSpare,
-    )
+    let ready : is_ready t.phase ≡ true = grind (arith, nat_tests) in
+    let old_owed : owed (T + c) u (get_or tasks i None) ≡ owed (T + c) u (Some t) = rw is in
+    let old_spare : spare (T + c) u (get_or tasks i None) ≡ spare (T + c) u (Some t) = rw is in
+    let new_owed = sum_by-set (owed (T + c) u) tasks i (charged c (Some t)) None lt in
+    let new_spare = sum_by-set (spare (T + c) u) tasks i (charged c (Some t)) None lt in
+    omega (arith, feasible u (omega arith), drift_all T c u tasks passed (omega arith), charge (T + c) c u t due late few ready, mul-le-mul_left c shared)
 
 module _ (before : Entry → Entry → Bool) (laws : Lawful before) (tasks : Tasks) (held : Held) (mirror : Mirrors tasks held) where
   -- a task that wants to run is held under its number
   pub wants_held : (k : ℕ) (t : Task) → k < length tasks → get_or tasks k None ≡ Some t → wants_to_run t ≡ true → entry_at held t.number ≡ Some (entry_for t)
-  wants_held k t lt is want =
-      ap (entry_at held) (mirror.placed k t lt is)
-      ∙ (mirror_entry tasks held k (omega (arith, mirror.many)) mirror ∙ (ap entry_of is ∙ cond-true (wants_to_run t) (Some (entry_for t)) None want))
+  wants_held k t lt is want = rw (mirror.placed k t lt is, mirror_entry tasks held k (omega (arith, mirror.many)) mirror, is) (grind (arith, nat_tests))
 
   -- no other task that wants to run has an earlier deadline than the first
   later : (e : Entry) → Leads before held e → (t : Task) → entry_at held t.number ≡ Some (entry_for t) → e.deadline ≤ t.deadline
-  later e lead t is =
-      ⊎_elim
-      (λ (same : e.number ≡ t.number).
-      let one : Some e ≡ Some (entry_for t) = sym lead.is_held ∙ (ap (entry_at held) same ∙ is) in
-      let d : e.deadline ≡ t.deadline = some_deadline e (entry_for t) one in omega arith)
-      (λ (apart : e.number ≡ t.number → ⊥).
-      let first = lead.leads (entry_for t) is apart in
-      ⊎_elim
-      (λ (early : t.deadline < e.deadline).
-      let sooner = laws.earlier (entry_for t) e (λ s. apart (sym s)) early in
-      let clash : true ≡ not true = sym sooner ∙ (laws.one e (entry_for t) apart ∙ ap not first) in
-      absurd (true≢false clash))
-      (λ le. le)
-      (cases_lt t.deadline e.deadline))
-      (cases_eq e.number t.number)
+  later e lead t is = let mine = lead.is_held in let first = lead.leads (entry_for t) is in let one = laws.one e (entry_for t) in let sooner = laws.earlier (entry_for t) e in grind (arith, nat_tests)
 
   -- so by any time before its deadline nothing is owed
   quiet_at : (e : Entry) → Leads before held e → (u : ℕ) → u < e.deadline → (i : ℕ) → i < length tasks → (x : Option Task) → get_or tasks i None ≡ x → Quiet u x
@@ -84,7 +55,7 @@ module _ (before : Entry → Entry → Bool) (laws : Lawful before) (tasks : Tas
   -- and with an empty list nothing is owed at all
   idle_at : held ≡ none → (u : ℕ) (i : ℕ) → i < length tasks → (x : Option Task) → get_or tasks i None ≡ x → Quiet u x
   idle_at empty u i in' None is = tt
-  idle_at empty u i in' (Some t) is = λ want. absurd (none_holds (entry_for t) (subst (λ h. entry_at h t.number ≡ Some (entry_for t)) empty (wants_held i t in' is want)))
+  idle_at empty u i in' (Some t) is = λ want. absurd (none_holds (entry_for t) (rw empty at wants_held i t in' is want))
 
   quiet_idle : held ≡ none → (u : ℕ) → AllByRecursion (Quiet u) tasks
   quiet_idle empty u = All-from_get_or (Quiet u) tasks None (λ i in'. idle_at empty u i in' (get_or tasks i None) refl)
@@ -94,22 +65,13 @@ module _ (before : Entry → Entry → Bool) (laws : Lawful before) (tasks : Tas
   leader e lead =
       let h = slot_at-some held e.number e lead.is_held in
       let lt : e.number - 1 < length tasks = omega (arith, h.0, h.1, mirror.many) in
-      let is : entry_of (get_or tasks (e.number - 1) None) ≡ Some e =
-      sym (get_or-map entry_of tasks (e.number - 1) None None lt) ∙ (ap (λ x. get_or x (e.number - 1) None) (sym mirror.same) ∙ h.2) in
+      let is : entry_of (get_or tasks (e.number - 1) None) ≡ Some e = rw (← get_or-map entry_of tasks (e.number - 1) None None lt, ← mirror.same) h.2 in
       let l = task_of (get_or tasks (e.number - 1) None) e is in
       (l.0, l.1, l.2, l.3, lt)
     where
       task_of : (x : Option Task) (o : Entry) → entry_of x ≡ Some o → (t : Task) × (x ≡ Some t) × (wants_to_run t ≡ true) × (entry_for t ≡ o)
-      task_of None o got = let z : ◌≡◌ {A = ℕ} 0 1 = cc in absurd (omega arith)
-      task_of (Some t) o got =
-          ⊎_elim
-          (λ (want : wants_to_run t ≡ true).
-          let same : Some (entry_for t) ≡ Some o = sym (cond-true (wants_to_run t) (Some (entry_for t)) None want) ∙ got in
-          (t, refl, want, cc))
-          (λ (want : wants_to_run t ≡ false).
-          let nothing : entry_of (Some t) ≡ None = cond-false (wants_to_run t) (Some (entry_for t)) None want in
-          let z : ◌≡◌ {A = ℕ} 0 1 = cc in absurd (omega arith))
-          (cases_Bool (wants_to_run t))
+      task_of None o got = absurd cc
+      task_of (Some t) o got = let want : wants_to_run t ≡ true = grind (arith, nat_tests) in (t, refl, want, grind (arith, nat_tests))
 
   quiet_charged : (u c : ℕ) (t : Task) → u < t.deadline → Quiet u (charged c (Some t))
   quiet_charged u c t lt = λ _. lt

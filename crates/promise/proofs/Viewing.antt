@@ -1,70 +1,33 @@
 -- The account and the controller agree: a task seen through its ledger is the task.
-use Rattle.std.proofs.Common.{◌≡◌, ℕ, ◌+◌, ◌-◌, ◌<◌, ◌≤◌, Bool, true, false, cond, ◌&&◌, eqb, [], ◌∷◌, map, length, get_or, set, Some, None, Option, sym, refl, ap, ◌∙◌, ⊎_elim, arith}
+use Rattle.std.proofs.Common.{◌≡◌, ℕ, ◌-◌, ◌<◌, [], ◌∷◌, map, length, get_or, None, Option, refl, arith}
 use Rattle.controller.specs.Settling.{charged_in}
 use Rattle.controller.specs.Tasks.{Tasks}
 use Rattle.controller.specs.declared.states.Runs.{Runs}
 use Rattle.controller.specs.declared.states.Runs.TheVariants.{Idle, Task as runs-task}
 use Rattle.promise.proofs.Sheets.{FreshSlot}
-use Rattle.promise.specs.Account.{Ledger, Ledgers, changed_by, due, follows, forgone, given_in, in_slot, left_in, opened, passing, regranted, renewed, served, spent, view}
-use Rattle.rules.specs.Changes.{becomes, is_waiting}
-use Rattle.rules.specs.Jobs.{after_deadline, charged, due_at, next_job}
+use Rattle.promise.specs.Account.{Ledger, Ledgers, changed_by, due, follows, given_in, in_slot, opened, passing, served, view}
+use Rattle.rules.specs.Changes.{becomes}
+use Rattle.rules.specs.Jobs.{charged, due_at}
 use Rattle.rules.specs.declared.changes.Change.{Change}
-use Rattle.rules.specs.declared.changes.Change.TheVariants.{Finish, Period, Rate, Wait, Wake}
 use Rattle.rules.specs.declared.tasks.Task.{Task}
 use Rattle.std.proofs.lemmas.List.{get_or-map, map-set}
-use Rattle.std.proofs.lemmas.Bool.{and_left, cases_Bool, cond_both, cond-false, cond-true}
+use Rattle.std.proofs.lemmas.Bool.Decides.{nat_tests}
 use Rattle.std.specs.List.{AllByRecursion}
 
--- a task with other ticks
-abbrev with_ticks : Task → ℕ → ℕ → Task
-with_ticks t l r =
-    record {
-      number = t.number;
-      rate = t.rate;
-      period = t.period;
-      phase = t.phase;
-      leaving = t.leaving;
-      release = t.release;
-      deadline = t.deadline;
-      left = l;
-      ran = r;
-    }
-
-same_ticks : (t : Task) (l r : ℕ) → l ≡ t.left → r ≡ t.ran → with_ticks t l r ≡ t
-same_ticks t l r left ran = ap (λ n. with_ticks t n r) left ∙ ap (with_ticks t t.left) ran
-
 pub view-opened : (t : Task) → t.ran ≡ 0 → view (opened t) ≡ t
-view-opened t none = same_ticks t (t.left - (0 + 0)) 0 (omega arith) (sym none)
-
-pub view-regranted : (u : Task) (a : Ledger) → u.ran ≡ a.job.given → view (regranted u a) ≡ u
-view-regranted u a ran = same_ticks u (u.left + (a.job.given + a.job.given_up) - (a.job.given + a.job.given_up)) a.job.given (omega arith) (sym ran)
-
-pub view-forgone : (u : Task) (a : Ledger) → u.ran ≡ a.job.given → u.left ≤ left_in a.job → view (forgone u a) ≡ u
-view-forgone u a ran less =
-    same_ticks u (a.job.grant - (a.job.given + (a.job.given_up + (left_in a.job - u.left)))) a.job.given (omega arith) (sym ran)
+view-opened t none = grind (arith, nat_tests)
 
 pub view-changed : (T : ℕ) (how : Change) (a : Ledger) → view (changed_by T how a) ≡ becomes T (view a) how
-view-changed T (Rate rate) a = view-regranted (becomes T (view a) (Rate rate)) a refl
-view-changed T (Period period) a = view-regranted (becomes T (view a) (Period period)) a refl
-view-changed T Wait a = view-forgone (becomes T (view a) Wait) a refl (omega arith)
-view-changed T Wake a = view-forgone (becomes T (view a) Wake) a refl (omega arith)
-view-changed T Finish a = view-forgone (becomes T (view a) Finish) a refl (omega arith)
-
-view-renewed : (a : Ledger) → view (renewed a) ≡ next_job (view a)
-view-renewed a = same_ticks (next_job (view a)) ((next_job (view a)).left - (0 + 0)) 0 (omega arith) refl
+view-changed T how a = grind (arith, nat_tests)
 
 -- ticks that a task is given
 served_charged : (c : ℕ) (x : Option Ledger) → in_slot view (in_slot (served c) x) ≡ charged c (in_slot view x)
-served_charged c None = refl
-served_charged c (Some a) =
-    let left : a.job.grant - (a.job.given + c + a.job.given_up) ≡ left_in a.job - c = omega arith in
-    ap (λ n. Some (with_ticks (view a) n (a.job.given + c))) left
+served_charged c x = grind (arith, nat_tests)
 
 -- time that passes shows only in the sums
 pub view-passing : (c : ℕ) (ledgers : Ledgers) → map (in_slot view) (map (in_slot (passing c)) ledgers) ≡ map (in_slot view) ledgers
 view-passing c [] = refl
-view-passing c (None ∷ ledgers) = ap (λ ts. None ∷ ts) (view-passing c ledgers)
-view-passing c (Some a ∷ ledgers) = ap (λ ts. Some (view a) ∷ ts) (view-passing c ledgers)
+view-passing c (x ∷ ledgers) = let later = view-passing c ledgers in grind (arith, nat_tests)
 
 -- the turn's task has a slot
 abbrev pub InLedgers : Runs → Ledgers → Type 0
@@ -74,41 +37,17 @@ InLedgers (runs-task number deadline) ledgers = number - 1 < length ledgers
 pub view-given : (runs : Runs) (c : ℕ) (ledgers : Ledgers) → InLedgers runs ledgers → map (in_slot view) (given_in runs c ledgers) ≡ charged_in runs c (map (in_slot view) ledgers)
 view-given Idle c ledgers in' = refl
 view-given (runs-task number deadline) c ledgers in' =
-    let i = number - 1 in
-    let slot = get_or ledgers i None in
-    map-set (in_slot view) ledgers i (in_slot (served c) slot)
-    ∙ ap (set (map (in_slot view) ledgers) i) (served_charged c slot ∙ ap (charged c) (sym (get_or-map (in_slot view) ledgers i None None in')))
-
--- a deadline that has come
-follows_view : (T : ℕ) (a : Ledger) → eqb a.terms.deadline T ≡ true → in_slot view (follows T (Some a)) ≡ after_deadline (view a)
-follows_view T a now' =
-    ap (in_slot view) (cond-true (eqb a.terms.deadline T) (cond a.terms.leaving None (Some (renewed a))) (Some a) now')
-    ∙ by_leaving a.terms.leaving
-  where
-    by_leaving : (b : Bool) → in_slot view (cond b None (Some (renewed a))) ≡ cond b None (Some (next_job (view a)))
-    by_leaving true = refl
-    by_leaving false = ap Some (view-renewed a)
+    let slot = get_or ledgers (number - 1) None in
+    rw (map-set (in_slot view) ledgers (number - 1) (in_slot (served c) slot), served_charged c slot, get_or-map (in_slot view) ledgers (number - 1) None None in')
 
 follows_due : (T : ℕ) (x : Option Ledger) → in_slot view (follows T (in_slot (due T) x)) ≡ due_at T (in_slot view x)
-follows_due T None = refl
-follows_due T (Some a) =
-    let D = a.terms.deadline in
-    ⊎_elim
-    (λ (now' : eqb D T ≡ true).
-    cond_both (eqb D T && is_waiting a.terms.phase) (spent a) a (λ x. in_slot view (follows T (Some x)) ≡ after_deadline (view a)) (λ _. follows_view T (spent a) now') (λ _. follows_view T a now')
-    ∙ sym (cond-true (eqb D T) (after_deadline (view a)) (Some (view a)) now'))
-    (λ (later : eqb D T ≡ false).
-    ap (λ x. in_slot view (follows T (Some x))) (cond-false (eqb D T && is_waiting a.terms.phase) (spent a) a (and_left (eqb D T) (is_waiting a.terms.phase) later))
-    ∙ (ap (in_slot view) (cond-false (eqb D T) (cond a.terms.leaving None (Some (renewed a))) (Some a) later) ∙ sym (cond-false (eqb D T) (after_deadline (view a)) (Some (view a)) later)))
-    (cases_Bool (eqb D T))
+follows_due T x = grind (arith, nat_tests)
 
 pub view-due : (T : ℕ) (ledgers : Ledgers) → map (in_slot view) (map (follows T) (map (in_slot (due T)) ledgers)) ≡ map (due_at T) (map (in_slot view) ledgers)
 view-due T [] = refl
-view-due T (x ∷ ledgers) =
-    ap (λ y. y ∷ map (in_slot view) (map (follows T) (map (in_slot (due T)) ledgers))) (follows_due T x) ∙ ap (λ ts. due_at T (in_slot view x) ∷ ts) (view-due T ledgers)
+view-due T (x ∷ ledgers) = let one = follows_due T x in let later = view-due T ledgers in grind (arith, nat_tests)
 
 -- the tasks of a sheet, seen through their first ledgers
 pub view_made : (T : ℕ) (tasks : Tasks) → AllByRecursion (FreshSlot T) tasks → map (in_slot view) (map (in_slot opened) tasks) ≡ tasks
 view_made T [] all = refl
-view_made T (None ∷ tasks) all = ap (λ ts. None ∷ ts) (view_made T tasks all.1)
-view_made T (Some t ∷ tasks) all = ap (λ u. Some u ∷ map (in_slot view) (map (in_slot opened) tasks)) (view-opened t all.0.ran) ∙ ap (λ ts. Some t ∷ ts) (view_made T tasks all.1)
+view_made T (x ∷ tasks) all = let later = view_made T tasks all.1 in grind (arith, nat_tests)

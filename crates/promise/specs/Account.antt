@@ -1,10 +1,10 @@
 -- The account: for each task what it was sold and what it got. It is kept from the calls and their answers alone;
 -- a turn that begin's answer opens says whose ticks they are.
-use Rattle.std.specs.Prelude.{ℕ, ◌+◌, ◌-◌, ◌*◌, Bool, cond, ◌&&◌, List, map, replicate, Some, None, Option, ◌==◌, slice_index_or, slice_set}
-use Rattle.calls.specs.Answering.{State}
-use Rattle.calls.specs.Asking.{Asked, admit, begin, change, make, settle, withdraw}
-use Rattle.calls.specs.declared.exchanges.Answer.{Answer}
-use Rattle.calls.specs.declared.exchanges.Answer.TheVariants.{Done, Faulty, Made, Opened, OutOfPlace, Refused, Settled, Withdrawn}
+use Rattle.std.specs.Prelude.{ℕ, ◌+◌, ◌-◌, ◌*◌, Bool, cond, ◌&&◌, List, map, replicate, Some, None, Ok, Err, Option, ◌==◌, slice_index_or, slice_set}
+use Rattle.calls.specs.Answering.{Answer, State}
+use Rattle.calls.specs.Asking.{Asked, admit, change, make, withdraw}
+use Rattle.calls.specs.declared.exchanges.Denial.TheVariants.{Faulty}
+use Rattle.calls.specs.declared.exchanges.Reply.TheVariants.{Done, Made, Opened, Settled, Withdrawn}
 use Rattle.controller.specs.Making.{made, made_tasks}
 use Rattle.controller.specs.Tasks.{Tasks}
 use Rattle.controller.specs.declared.states.Runs.{Runs}
@@ -15,7 +15,7 @@ use Rattle.rules.specs.Changes.{becomes, is_waiting}
 use Rattle.rules.specs.Jobs.{next_job}
 use Rattle.rules.specs.Withdrawals.{marked}
 use Rattle.rules.specs.declared.changes.Change.{Change}
-use Rattle.rules.specs.declared.changes.Change.TheVariants.{Finish, Period, Rate, Wait, Wake}
+use Rattle.rules.specs.declared.changes.Change.TheVariants.{Period, Rate}
 use Rattle.rules.specs.declared.phases.Phase.{Phase}
 use Rattle.rules.specs.declared.tasks.Task.{Task}
 use Rattle.rules.specs.declared.withdrawals.Departure.{Departure}
@@ -124,9 +124,7 @@ forgone u a = let rest = giving_up (left_in a.job - u.left) a in record { terms 
 abbrev pub changed_by : ℕ → Change → Ledger → Ledger
 changed_by T (Rate rate) a = regranted (becomes T (view a) (Rate rate)) a
 changed_by T (Period period) a = regranted (becomes T (view a) (Period period)) a
-changed_by T Wait a = forgone (becomes T (view a) Wait) a
-changed_by T Wake a = forgone (becomes T (view a) Wake) a
-changed_by T Finish a = forgone (becomes T (view a) Finish) a
+changed_by T how a = forgone (becomes T (view a) how) a
 
 -- a task that goes at its deadline
 abbrev pub leaves : Ledger → Ledger
@@ -206,17 +204,12 @@ carried (make sheet) a = afresh (made_tasks (made sheet))
 carried (admit asked) a = with' (slice_set a.ledgers (asked.number - 1) (Some (opened (admitted a.clock asked)))) a
 carried (change number how) a = with' (at number (changed_by a.clock how) a.ledgers) a
 carried (withdraw number) a = with' (slice_set a.ledgers (number - 1) None) a
-carried begin a = a
-carried (settle count) a = a
+carried asked a = a
 
 -- what a withdrawal to the deadline does
 abbrev pub marked_by : Asked → Account → Account
-marked_by (make sheet) a = a
-marked_by (admit asked) a = a
-marked_by (change number how) a = a
 marked_by (withdraw number) a = with' (at number leaves a.ledgers) a
-marked_by begin a = a
-marked_by (settle count) a = a
+marked_by asked a = a
 
 abbrev pub gone_by : Departure → Asked → Account → Account
 gone_by AtOnce asked a = carried asked a
@@ -224,11 +217,10 @@ gone_by (AtDeadline deadline) asked a = marked_by asked a
 
 -- what a call and its answer do to the account; a refusal and a call out of its place change nothing, but that a refused make leaves no task
 abbrev pub moved : Asked → Answer → Account → Account
-moved asked (Made tasks) a = carried asked a
-moved asked (Faulty fault) a = fresh
-moved asked Done a = carried asked a
-moved asked (Withdrawn when) a = gone_by when asked a
-moved asked (Opened turn) a = record { clock = a.clock; ledgers = a.ledgers; turn = Some turn }
-moved asked (Settled T) a = record { clock = T; ledgers = map (follows T) (read_at T a); turn = None }
-moved asked (Refused why) a = a
-moved asked OutOfPlace a = a
+moved asked (Ok (Made tasks)) a = carried asked a
+moved asked (Ok Done) a = carried asked a
+moved asked (Ok (Withdrawn when)) a = gone_by when asked a
+moved asked (Ok (Opened turn)) a = record { clock = a.clock; ledgers = a.ledgers; turn = Some turn }
+moved asked (Ok (Settled T)) a = record { clock = T; ledgers = map (follows T) (read_at T a); turn = None }
+moved asked (Err (Faulty fault)) a = fresh
+moved asked (Err denial) a = a

@@ -1,10 +1,9 @@
 -- The promise, over every list of calls and their answers: each answer is the one that the rules ask for, and every task
 -- gets what it was sold before each of its deadlines.
-use Rattle.std.specs.Prelude.{◌≡◌, ℕ, ◌+◌, ◌*◌, ◌^◌, ◌<◌, ◌≤◌, Bool, true, ◌⊎◌, List, [], ◌∷◌, Some, None, Option, ◌≢◌}
-use Rattle.calls.specs.Answering.{State, answer_to, answers_to, start}
+use Rattle.std.specs.Prelude.{◌≡◌, ℕ, ◌+◌, ◌*◌, ◌^◌, ◌<◌, ◌≤◌, Bool, true, ◌⊎◌, List, [], ◌∷◌, Some, None, Ok, Option, ◌≢◌}
+use Rattle.calls.specs.Answering.{Answer, State, answer_to, answers_to, start}
 use Rattle.calls.specs.Asking.{Asked}
-use Rattle.calls.specs.declared.exchanges.Answer.{Answer}
-use Rattle.calls.specs.declared.exchanges.Answer.TheVariants.{Done, Faulty, Made, Opened, OutOfPlace, Refused, Settled, Withdrawn}
+use Rattle.calls.specs.declared.exchanges.Reply.TheVariants.{Opened, Settled}
 use Rattle.controller.specs.Changing.{task_at}
 use Rattle.controller.specs.Tasks.{Tasks}
 use Rattle.controller.specs.declared.states.Runs.{Runs}
@@ -33,14 +32,8 @@ PaidAt T (Some a) = a.terms.deadline ≤ T → Paid a
 
 -- only a settled turn moves the clock; every deadline that has come by then is read
 abbrev pub PaidBy : Answer → Account → Type 0
-PaidBy (Made tasks) a = Unit {0}
-PaidBy (Faulty fault) a = Unit {0}
-PaidBy Done a = Unit {0}
-PaidBy (Withdrawn when) a = Unit {0}
-PaidBy (Opened turn) a = Unit {0}
-PaidBy (Settled T) a = AllByRecursion (PaidAt T) (read_at T a)
-PaidBy (Refused why) a = Unit {0}
-PaidBy OutOfPlace a = Unit {0}
+PaidBy (Ok (Settled T)) a = AllByRecursion (PaidAt T) (read_at T a)
+PaidBy answer a = Unit {0}
 
 -- a task as the tie order sees it
 abbrev pub entry_for : Task → Entry
@@ -78,15 +71,10 @@ pub record Rightly (before : Entry → Entry → Bool) (T : ℕ) (tasks : Tasks)
   pub ends : Ends T tasks turn.runs (T + turn.length)
   pub first : (time : ℕ) → Ends T tasks turn.runs time → T + turn.length ≤ time
 
+-- only begin opens a turn
 abbrev pub TurnBy : (Entry → Entry → Bool) → Answer → State → Type 0
-TurnBy before (Made tasks) s = Unit {0}
-TurnBy before (Faulty fault) s = Unit {0}
-TurnBy before Done s = Unit {0}
-TurnBy before (Withdrawn when) s = Unit {0}
-TurnBy before (Opened turn) s = Rightly before s.clock s.tasks turn
-TurnBy before (Settled T) s = Unit {0}
-TurnBy before (Refused why) s = Unit {0}
-TurnBy before OutOfPlace s = Unit {0}
+TurnBy before (Ok (Opened turn)) s = Rightly before s.clock s.tasks turn
+TurnBy before answer s = Unit {0}
 
 -- one call and its answer, against the account as it stood before
 pub record Kept (before : Entry → Entry → Bool) (a : Account) (asked : Asked) (answer : Answer) : Type 0 where

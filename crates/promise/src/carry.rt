@@ -2,7 +2,7 @@
 ghost use Rattle.std.specs.Prelude.{◌≡◌, map, length, take};
 ghost use Rattle.calls.specs.Answering.{after_all, answers_to, start};
 ghost use Rattle.calls.specs.Asking.{asked_by};
-ghost use Rattle.calls.specs.Stages.{TiedAt, state_of};
+ghost use Rattle.calls.specs.Stages.{TiedTo, state_of};
 ghost use Rattle.promise.specs.Account.{fresh};
 ghost use Rattle.promise.specs.Carrying.{written_over};
 ghost use Rattle.promise.specs.Promised.{Promise};
@@ -21,16 +21,17 @@ pub fn carry_out<L: ReadyList>(
     list: &mut L,
 ) -> Stage
     ensures answers { answers.new ≡ written_over (answers_to L.Order.TieOrder.before start (map asked_by calls.now)) answers.old }
-    ensures state { state_of result memory.new.slots ≡ after_all L.Order.TieOrder.before start (take (length answers.old) (map asked_by calls.now)) }
-    ensures list { L.ReadyList.held list.new ≡ map entry_of memory.new.slots }
-    ensures tied { TiedAt L.Order.TieOrder.before result memory.new.slots (L.ReadyList.held list.new) (L.ReadyList.ok list.new) }
+    ensures state { state_of result memory.new ≡ after_all L.Order.TieOrder.before start (take (length answers.old) (map asked_by calls.now)) }
+    ensures list { L.ReadyList.held list.new ≡ map entry_of memory.new }
+    ensures tied { TiedTo L.ReadyList L.Order.TieOrder.before result memory.new list.new }
     ensures promise { Promise L.Order.TieOrder.before fresh (map asked_by calls.now) answers.new }
 {
     let mut stage = Stage::start(memory, list);
-    for place in 0..calls.len().min(answers.len()) {
-        let (next, answer) = stage.answer(calls[place], memory, list);
-        stage = next;
-        answers[place] = answer;
+    // Not a zip with the places: what is written through one, no clause tells afterwards.
+    let mut asked = calls.iter();
+    for answer in answers.iter_mut() {
+        let Some(call) = asked.next() else { break };
+        (stage, *answer) = stage.answer(*call, memory, list);
     }
     stage
 }

@@ -1,5 +1,5 @@
 -- Where the parts of a record end, and how long its name is.
-use Rattle.std.proofs.Common.{◌≡◌, ℕ, ◌+◌, ◌<◌, ◌≤◌, ◌&&◌, eqb, leb, List, [], ◌∷◌, length, IfOk, Some, None, Ok, Err, Option, Result, refl, arith, length-drop}
+use Rattle.std.proofs.Common.{◌≡◌, ℕ, ◌+◌, ◌<◌, ◌≤◌, ◌&&◌, eqb, leb, List, [], ◌∷◌, length, IfOk, Some, None, Ok, Err, Option, Result, arith, length-drop}
 use Rattle.std.proofs.lemmas.List.{length-take-le}
 use Rattle.std.proofs.lemmas.Result.{IfOk-weaker}
 use Rattle.std.proofs.lemmas.Bool.{cond_both, and_parts, leb-true}
@@ -7,7 +7,6 @@ use Rattle.sheet.specs.declared.numbers.Number.{Number}
 use Rattle.sheet.specs.declared.numbers.NumberFault.{NumberFault}
 use Rattle.sheet.specs.declared.records.Field.{Field}
 use Rattle.sheet.specs.declared.records.RecordFault.{RecordFault}
-use Rattle.sheet.specs.Numbers.{number_read}
 use Rattle.sheet.specs.Readings.{Left, and_then, opened}
 use Rattle.sheet.specs.Records.{RecordValue, task, note, number_at, field_in, text_in, unless_bad, name_in, note_text_in, task_in, note_in, body_in}
 use Rattle.sheet.proofs.Groups.{Within, number_within}
@@ -25,12 +24,8 @@ number_onward : (left : Left) (r : Result Number NumberFault) → IfOk r (Within
 number_onward left (Ok n) h = (omega arith, simp length-drop (omega arith))
 number_onward left (Err fault) h = tt
 
-number_made : (bytes : List ℕ) (place : ℕ) (r : Result Number NumberFault) → r ≡ number_read bytes place → IfOk r (Within bytes)
-number_made bytes place (Ok n) e = number_within bytes place n e
-number_made bytes place (Err fault) e = tt
-
 pub field_onward : (left : Left) → IfOk (field_in left) (λ read. Onward left read.1)
-field_onward left = number_onward left _ (number_made left.bytes left.place _ refl)
+field_onward left = number_onward left _ (number_within left.bytes left.place)
 
 -- a text is as long as its length field says, and lies in what is left
 abbrev Sized : Field → Left → List ℕ → Type 0

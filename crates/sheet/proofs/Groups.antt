@@ -1,8 +1,7 @@
 -- The groups of a number, read from the low one up with what they are worth so far.
-use Rattle.std.proofs.Common.{◌≡◌, ℕ, zero, suc, ◌+◌, ◌-◌, ◌*◌, ◌^◌, ◌<◌, ◌≤◌, Bool, true, false, cond, not, ◌&&◌, eqb, ltb, List, [], ◌∷◌, length, get_or, take, drop, min, IfOk, Ok, Err, Result, sym, refl, ap, ◌∙◌, mul_assoc, pow-suc, mul-add, add-one, arith}
+use Rattle.std.proofs.Common.{◌≡◌, ℕ, zero, suc, ◌+◌, ◌-◌, ◌*◌, ◌^◌, ◌<◌, ◌≤◌, Bool, true, false, cond, not, ◌&&◌, eqb, ltb, List, [], ◌∷◌, length, get_or, take, drop, min, IfOk, Ok, Err, Result, refl, ap, ◌∙◌, mul_assoc, pow-suc, mul-add, add-one, arith}
 use Rattle.std.proofs.lemmas.List.{drop_more, take_min}
 use Rattle.std.proofs.lemmas.Bool.{cond-true, cond-false, cond_both, lt-ltb, le-ltb, ne_eqb}
-use Rattle.std.proofs.lemmas.Result.{IfOk-at_ok}
 use Rattle.std.proofs.lemmas.Nat.{mul-le}
 use Rattle.std.proofs.Math.Nat.{pow-le-pow_right}
 use Rattle.sheet.specs.declared.numbers.Number.{Number}
@@ -101,6 +100,6 @@ groups_within (suc n) first (b ∷ bytes) place =
     (λ _. cond_both (eqb b 0 && not first) _ _ P (λ _. tt) (λ _. (omega arith, omega arith)))
     (λ _. below_within (b - 128) b bytes _ (groups_within n false bytes place))
 
-pub number_within : (bytes : List ℕ) (place : ℕ) (n : Number) → Ok n ≡ number_read bytes place → Within bytes n
+pub number_within : (bytes : List ℕ) (place : ℕ) → IfOk (number_read bytes place) (Within bytes)
 unfolding number_read
-number_within bytes place n e = IfOk-at_ok (Within bytes) (sym e) (groups_within 4 true bytes place)
+number_within bytes place = groups_within 4 true bytes place

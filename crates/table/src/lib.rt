@@ -20,6 +20,7 @@ pub struct Table<O> {
 }
 
 impl<O: TieOrder> Table<O> {
+    // A list that holds nothing.
     pub fn new(order: O) -> Table<O>
         ensures { result.slots ≡ none }
     {

@@ -1,6 +1,6 @@
 // Reads the records of a sheet: tasks and notes, each behind its kind byte.
 ghost use Rattle.std.specs.Prelude.{◌≡◌, take};
-ghost use Rattle.sheet.specs.Records.{field_in, name_byte, bad_byte, text_in, name_in, task_in, note_text_in, note_in, body_in, record_at};
+ghost use Rattle.sheet.specs.Records.{field_in, bad_byte, text_in, name_in, task_in, note_text_in, note_in, body_in, record_at};
 ghost use Rattle.sheet.specs.Values.{left_of, field_of, text_of, found_of, record_of};
 
 use super::{Field, Found, Record, RecordFault, Rest, TaskRecord};
@@ -25,7 +25,7 @@ const LONGEST_NAME: u32 = 12;
 
 const LONGEST_NOTE: u32 = 80;
 
-// The offset of the first of `count` bytes that no name may have.
+// The offset of the first of `count` bytes that no name may have: one that does not print, or a space.
 fn bad_byte(count: usize, rest: Rest<'_>) -> Option<usize>
     ensures { result ≡ bad_byte (take count rest.entry.bytes.now) rest.entry.place }
 {
