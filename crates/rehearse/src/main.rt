@@ -26,7 +26,7 @@ fn read_input(rt: &HostRuntime) -> anyhow::Result<Vec<u8>> {
 }
 
 // What is printed in an order does not depend on the list.
-fn lines_over<O: TieOrder>(
+fn lines_over<O: TieOrder + Drop>(
     heap: Global,
     list: ListKind,
     order: O,
