@@ -1,6 +1,6 @@
 -- The byte that opens a part, and what stands behind it.
 use Rattle.std.proofs.Common.{◌≡◌, ℕ, ◌+◌, ◌-◌, ◌<◌, ◌≤◌, List, [], ◌∷◌, length, get_or, take, drop, Some, None, Ok, Option, Result, sym, ap, ◌∙◌, arith}
-use Rattle.std.proofs.lemmas.List.{drop_all, nil_from_length, take_rest}
+use Rattle.std.proofs.lemmas.List.{drop_all, take_rest}
 use Rattle.sheet.specs.Readings.{Left, and_then, opened, part_at}
 
 -- what the code cuts off behind the first byte
@@ -25,10 +25,6 @@ module _ {A E : Type 0} (body : ℕ → Left → ℕ → Result (A × ℕ) E) wh
   pub part_split : (bytes : List ℕ) (place : ℕ) (read : Result (A × ℕ) E) → 0 < length (from bytes place) → read ≡ body (get_or (from bytes place) 0 0) (behind (from bytes place) place) place → whole read ≡ part_at body bytes place
   unfolding part_at
   part_split bytes place read h e = split (from bytes place) place read h e ∙ ap (λ l. opened body l place) (take_rest bytes place)
-
-  pub part_none_left : (bytes : List ℕ) (place : ℕ) → length (from bytes place) ≤ 0 → Ok None ≡ part_at body bytes place
-  unfolding part_at
-  part_none_left bytes place h = ap (λ l. opened body l place) (sym (nil_from_length (from bytes place) (omega arith)) ∙ take_rest bytes place)
 
   pub part_none : (bytes : List ℕ) (place : ℕ) → length bytes ≤ place → Ok None ≡ part_at body bytes place
   unfolding part_at

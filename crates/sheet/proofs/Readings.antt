@@ -1,5 +1,5 @@
 -- How a reading unfolds, for loops that read part by part.
-use Rattle.std.proofs.Common.{◌≡◌, ℕ, zero, suc, ◌-◌, ◌<◌, ◌≤◌, List, length, IsErrAnd, Some, None, Ok, Err, Result, sym, refl, ap, ◌∙◌, arith}
+use Rattle.std.proofs.Common.{◌≡◌, ℕ, zero, suc, ◌-◌, ◌<◌, ◌≤◌, List, length, Some, None, Ok, Err, sym, refl, ap, ◌∙◌, arith}
 use Rattle.sheet.specs.Readings.{Reader, done, broken, entry, read_on, parts, reading_from}
 
 -- a reader that ends with the bytes, and gets on with each part
@@ -39,8 +39,3 @@ module _ {A E : Type 0} (reader : Reader A E) (advances : Advances reader) where
 
   pub reading_fault : (bytes : List ℕ) (place : ℕ) (fault : E) → reader bytes place ≡ Err fault → reading_from reader bytes place ≡ broken fault
   reading_fault bytes place fault e = unfolds bytes place ∙ ap (λ r. read_on r (reading_from reader bytes)) e
-
--- what `?` hands on is the fault that it was given
-pub handed_on : {A E : Type 0} (r : Result A E) (fault : E) → IsErrAnd r (λ made. made ≡ fault) → r ≡ Err fault
-handed_on (Ok x) fault h = absurd h
-handed_on (Err made) fault h = ap Err h
