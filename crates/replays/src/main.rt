@@ -32,8 +32,10 @@ fn replay(rt: &HostRuntime, number: u32) -> anyhow::Result<bool> {
     let input = stored(rt, number, "in")?;
     let by_number = stored(rt, number, "number")?;
     let by_rate = stored(rt, number, "rate")?;
-    Ok(agrees(rt, input.as_slice(), by_number.as_slice(), ByNumber)?
-        && agrees(rt, input.as_slice(), by_rate.as_slice(), ByRate)?)
+    Ok(
+        agrees(rt, input.as_slice(), by_number.as_slice(), ByNumber)?
+            && agrees(rt, input.as_slice(), by_rate.as_slice(), ByRate)?,
+    )
 }
 
 fn run(rt: &HostRuntime) -> anyhow::Result<()> {
