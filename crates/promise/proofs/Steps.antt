@@ -7,8 +7,6 @@ use Rattle.rules.specs.Admission.{admitted}
 use Rattle.rules.specs.Changes.{deadline_at, may_lower, share, with_period, with_rate}
 use Rattle.rules.specs.Sound.{Sound}
 use Rattle.rules.specs.declared.admission.Reservation.{Reservation}
-use Rattle.rules.proofs.Passing.{Passed}
-use Rattle.rules.specs.Jobs.{due_at}
 use Rattle.rules.specs.declared.tasks.Task.{Task}
 use Rattle.std.proofs.lemmas.List.Sums.{sum_by-set}
 use Rattle.std.proofs.lemmas.Bool.{cases_lt}
@@ -50,7 +48,3 @@ period_no_worse T t period s f allowed u le =
     (λ (after : D ≤ u). let cap : R * (D - T) ≤ R * (u - T) = mul-le-mul_left R (omega arith) in grind (arith, nat_tests))
     (cases_lt u D))
     (cases_lt E D)
-
--- a deadline that has come: what is left of the job is dropped, and the next one starts even
-pub due_no_worse : (T : ℕ) (t : Task) → Passed T t → NoWorse T (Some t) (due_at T (Some t))
-due_no_worse T t p u le = grind (arith, nat_tests)

@@ -2,7 +2,7 @@
 use Rattle.std.proofs.Common.{◌≡◌, ℕ, ◌+◌, ◌-◌, ◌*◌, ◌<◌, ◌≤◌, true, [], ◌∷◌, map, Some, None, sum_by, Option, refl, mul-add, arith}
 use Rattle.controller.proofs.Settles.{PassedSlot}
 use Rattle.controller.specs.Tasks.{Tasks, rates}
-use Rattle.promise.proofs.Steps.{due_no_worse, same_times}
+use Rattle.promise.proofs.Steps.{same_times}
 use Rattle.promise.specs.Feasible.{Feasible, NoWorse, owed, spare}
 use Rattle.rules.specs.Jobs.{charged, due_at}
 use Rattle.rules.specs.Tasks.{is_ready, rate_of, wants_to_run}
@@ -47,14 +47,13 @@ pub quiet_all : (T u : ℕ) (tasks : Tasks) → AllByRecursion (Quiet u) tasks �
 quiet_all T u [] all = refl
 quiet_all T u (x ∷ tasks) all = simp sum_by-cons (omega (arith, quiet_slot T u x all.0, quiet_all T u tasks all.1))
 
--- every deadline that has come is dealt with
-due_slot_no_worse : (T : ℕ) (x : Option Task) → PassedSlot T x → NoWorse T x (due_at T x)
-due_slot_no_worse T None p u le = omega arith
-due_slot_no_worse T (Some t) p u le = due_no_worse T t p u le
+-- a deadline that has come is dealt with: what is left of the job is dropped, and the next one starts even
+due_no_worse : (T : ℕ) (x : Option Task) → PassedSlot T x → NoWorse T x (due_at T x)
+due_no_worse T x p u le = grind (arith, nat_tests)
 
 due_sums : (T u : ℕ) (tasks : Tasks) → T ≤ u → AllByRecursion (PassedSlot T) tasks → sum_by (owed T u) (map (due_at T) tasks) + sum_by (spare T u) tasks ≤ sum_by (owed T u) tasks + sum_by (spare T u) (map (due_at T) tasks)
 due_sums T u [] le all = omega arith
-due_sums T u (x ∷ tasks) le all = simp sum_by-cons (omega (arith, due_slot_no_worse T x all.0 u le, due_sums T u tasks le all.1))
+due_sums T u (x ∷ tasks) le all = simp sum_by-cons (omega (arith, due_no_worse T x all.0 u le, due_sums T u tasks le all.1))
 
 pub due_feasible : (T : ℕ) (tasks : Tasks) → AllByRecursion (PassedSlot T) tasks → Feasible T tasks → Feasible T (map (due_at T) tasks)
 due_feasible T tasks all feasible u le = omega (arith, feasible u le, due_sums T u tasks le all)
