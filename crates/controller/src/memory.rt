@@ -46,6 +46,7 @@ impl TaskMemory {
         requires { rates self.now ≤ 1000 }
         ensures { result ≡ rates self.now }
     {
+        // a loop and no chain, by a rule of the project
         let mut sum = 0;
         for slot in self.slots.iter() {
             sum += rate_of(*slot);

@@ -195,6 +195,7 @@ pub fn step_at(input: &[u8], place: usize) -> Result<Option<(Step, usize)>, BadS
 }
 
 // The call records from an offset of the input on. A bad one is the last.
+// A twin of `sheet::walk::Records`: one iterator over both needs a trait for reader, fault and value, which is longer than a second `next`.
 #[derive(Clone, Copy)]
 pub(crate) struct Calls<'a> {
     pub(crate) input: &'a [u8],

@@ -33,7 +33,7 @@ impl TaskAt {
     }
 }
 
-// When the task of a withdrawn slot goes.
+// When the task of a withdrawn slot goes. By name and not as `From`: a slot becomes a departure only here.
 pub fn departure_of(slot: Option<Task>) -> Departure
     ensures { result ≡ departure_of slot }
 {
