@@ -114,10 +114,9 @@ pub struct BadStep {
 }
 
 // So many numbers, and the offset just past them.
-fn read_numbers<const N: usize>(rest: Rest) -> Result<([u32; N], usize), RecordFault>
+fn read_numbers<const N: usize>(mut rest: Rest) -> Result<([u32; N], usize), RecordFault>
     ensures { result ≡ numbers_in N (left_of rest.entry) }
 {
-    let mut rest = rest;
     let mut numbers = [0; N];
     for number in numbers.iter_mut() {
         let (field, behind) = read_field(rest)?;
