@@ -47,7 +47,7 @@ fn first_job(clock: u64, asked: Reservation) -> Task
         phase: Phase::Ready,
         leaving: false,
         release: clock,
-        deadline: clock + asked.period as u64,
+        deadline: clock + u64::from(asked.period),
         left: grant(asked.rate, asked.period),
         ran: 0,
     }

@@ -118,7 +118,7 @@ impl TaskAt {
         check_changeable(task)?;
         check_period(period)?;
         check_worth(task.rate, period)?;
-        let deadline = task.release + period as u64;
+        let deadline = task.release + u64::from(period);
         if deadline < task.deadline && 1000 * task.left > self.share() {
             return Err(Refusal::BehindRate);
         }

@@ -10,7 +10,7 @@ use crate::ticks::whole_ticks;
 pub fn grant(rate: u32, period: u32) -> u64
     ensures { result ≡ grant_of rate period }
 {
-    whole_ticks(rate, period as u64)
+    whole_ticks(rate, u64::from(period))
 }
 
 // A task at its deadline: a leaving one goes, any other gets its next job.
@@ -23,7 +23,7 @@ pub fn after_deadline(task: Task) -> Option<Task>
     }
     let mut next = Task {
         release: task.deadline,
-        deadline: task.deadline + task.period as u64,
+        deadline: task.deadline + u64::from(task.period),
         left: grant(task.rate, task.period),
         ran: 0,
         ..task

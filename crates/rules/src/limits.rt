@@ -11,22 +11,26 @@ const FULL_RATE: u32 = 1000;
 
 const LONGEST_PERIOD: u32 = 1_000_000;
 
+// A value from 1 to its most.
+fn check_within(most: u32, value: u32, otherwise: Refusal) -> Result<(), Refusal>
+    ensures { result ≡ cond (within 1 most value) (Ok tt) (Err otherwise) }
+{
+    if !(1..=most).contains(&value) {
+        return Err(otherwise);
+    }
+    Ok(())
+}
+
 pub(crate) fn check_rate(rate: u32) -> Result<(), Refusal>
     ensures { result ≡ cond (within 1 1000 rate) (Ok tt) (Err RateOutOfRange) }
 {
-    if !(1..=FULL_RATE).contains(&rate) {
-        return Err(Refusal::RateOutOfRange);
-    }
-    Ok(())
+    check_within(FULL_RATE, rate, Refusal::RateOutOfRange)
 }
 
 pub(crate) fn check_period(period: u32) -> Result<(), Refusal>
     ensures { result ≡ cond (within 1 1000000 period) (Ok tt) (Err PeriodOutOfRange) }
 {
-    if !(1..=LONGEST_PERIOD).contains(&period) {
-        return Err(Refusal::PeriodOutOfRange);
-    }
-    Ok(())
+    check_within(LONGEST_PERIOD, period, Refusal::PeriodOutOfRange)
 }
 
 // A job has a tick at least.

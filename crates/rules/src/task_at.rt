@@ -24,7 +24,7 @@ impl TaskAt {
     pub(crate) fn share(self) -> u64
         ensures { result ≡ share self.clock self.task }
     {
-        self.task.rate as u64 * self.until_deadline()
+        u64::from(self.task.rate) * self.until_deadline()
     }
 
     // A job that has run no tick, or is not ahead of its rate, may be lowered.

@@ -8,7 +8,7 @@ pub(crate) fn whole_ticks(rate: u32, span: u64) -> u64
     ensures value { result ≡ rounded_down (rate * span) }
     ensures few { rate ≤ 1000 → result ≤ span }
 {
-    rate as u64 * span / 1000
+    u64::from(rate) * span / 1000
 }
 
 // Rounded up.
@@ -16,5 +16,5 @@ pub(crate) fn ticks_to_cover(rate: u32, span: u64) -> u64
     requires { rate * span < 2 ^ 64 }
     ensures { result ≡ rounded_up (rate * span) }
 {
-    (rate as u64 * span).div_ceil(1000)
+    (u64::from(rate) * span).div_ceil(1000)
 }

@@ -8,7 +8,7 @@ use crate::task_at::TaskAt;
 use crate::tasks::Task;
 
 // When a task that was withdrawn goes. Not an `Option<u64>`: `None` for "at once" would say less than its name.
-#[derive(Clone, Copy)]
+#[derive(Clone, Copy, PartialEq, Eq, Debug)]
 pub enum Departure {
     AtOnce,
     AtDeadline(u64),
@@ -33,12 +33,14 @@ impl TaskAt {
     }
 }
 
-// When the task of a withdrawn slot goes. By name and not as `From`: a slot becomes a departure only here.
-pub fn departure_of(slot: Option<Task>) -> Departure
-    ensures { result ≡ departure_of slot }
-{
-    slot.map_or(
-        Departure::AtOnce,
-        |task| Departure::AtDeadline(task.deadline),
-    )
+// When the task of a withdrawn slot goes.
+impl From<Option<Task>> for Departure {
+    ghost from_gives = { λ slot departure. departure ≡ departure_of slot };
+
+    fn from(value: Option<Task>) -> Departure {
+        value.map_or(
+            Departure::AtOnce,
+            |task| Departure::AtDeadline(task.deadline),
+        )
+    }
 }
