@@ -8,9 +8,13 @@ use Rattle.ready.specs.Held.{Held, Slotted, entry_at, put_in, taken_out}
 use Rattle.rules.specs.Jobs.{after_deadline, charged, due_at, next_job}
 use Rattle.rules.specs.Tasks.{entry_of, wants_to_run}
 use Rattle.rules.specs.declared.tasks.Task.{Task}
-use Rattle.std.proofs.lemmas.List.{get_or-map, map-set}
+use Rattle.std.proofs.lemmas.List.{get_or-map, map-set, set-get_or}
 use Rattle.std.proofs.lemmas.Bool.{cases_Bool, cond_both, cond-false, cond-true}
 use Rattle.std.proofs.lemmas.Bool.Decides.{nat_tests}
+
+-- a slot that holds what is to be written stays
+pub same_entry : (held : Held) (number : ℕ) (is : Option Entry) → in_range number ≡ true → entry_at held number ≡ is → held ≡ set held (number - 1) is
+same_entry held number is range same = sym (set-get_or held (number - 1) None) ∙ ap (set held (number - 1)) (sym (entry_slot held number range) ∙ same)
 
 -- take out, then put
 pub relisted : (h₀ h₁ h₂ : Held) (number : ℕ) (e : Entry) (is : Option Entry) → Slotted h₀ → in_range number ≡ true → is ≡ Some e → Fits number is

@@ -2,6 +2,7 @@
 use Rattle.std.specs.Prelude.{◌≡◌, ℕ, ◌+◌, List, map, length, replicate, Some, None, sum_by, Option}
 use Rattle.order.specs.declared.entries.Entry.{Entry}
 use Rattle.ready.specs.Held.{Held, PlacedBy}
+use Rattle.ready.specs.declared.ReadyList.{Ghosts}
 use Rattle.rules.specs.Tasks.{entry_of, rate_of}
 use Rattle.rules.specs.declared.tasks.Task.{Task}
 
@@ -27,6 +28,11 @@ pub record Mirrors (tasks : Tasks) (held : Held) : Type 0 where
   pub many : length tasks ≡ 64
   pub placed : PlacedBy (λ t. t.number) tasks
   pub same : held ≡ map entry_of tasks
+
+-- the tasks and a list that mirrors them; `lists` says what a list of type L holds, and when its memory is in order
+pub record Mirrored {L O : Type 0} (lists : Ghosts L O) (tasks : Tasks) (list : L) : Type 0 where
+  pub mirror : Mirrors tasks (lists.held list)
+  pub memory : lists.ok list
 
 -- the rates in force of all tasks, leaving, waiting and finished ones too
 abbrev pub rates : Tasks → ℕ

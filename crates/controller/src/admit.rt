@@ -26,7 +26,7 @@ impl TaskMemory {
     {
         let taken = self.task_at(asked.number).is_some();
         let task = admit(clock, taken, self.rates(), asked)?;
-        self.store(list, task.number as usize - 1, Some(task));
+        self.store(list, task.number, Some(task));
         Ok(())
     }
 }

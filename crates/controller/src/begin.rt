@@ -21,7 +21,7 @@ impl TaskMemory {
         let room = self.nearest() - clock;
         match first {
             None => room,
-            Some(e) => left_of(self.slots[e.number as usize - 1]).min(room),
+            Some(e) => left_of(self.task_at(e.number)).min(room),
         }
     }
 }

@@ -33,7 +33,7 @@ impl Resting {
             task,
         }
         .apply(memory.rates(), change)?;
-        memory.store(list, number as usize - 1, Some(next));
+        memory.store(list, number, Some(next));
         Ok(())
     }
 }

@@ -1,7 +1,7 @@
 // Settle: the clock advances, the turn's task is charged, and every deadline that has come is dealt with.
 ghost use Rattle.std.specs.Prelude.{◌≡◌, ◌^◌, ◌≤◌, map};
 ghost use Rattle.controller.specs.Settling.{Runner, charged_in, settled_tasks, settling};
-ghost use Rattle.controller.specs.Tasks.{Mirrors};
+ghost use Rattle.controller.specs.Tasks.{Mirrored};
 ghost use Rattle.controller.specs.Tied.{AfterSettle, OpenOn, TiedTo};
 ghost use Rattle.rules.specs.Jobs.{due_at};
 ghost use Rattle.rules.specs.Tasks.{entry_of};
@@ -17,27 +17,22 @@ impl TaskMemory {
     // Charges the ticks of a turn to its task; an idle turn charges nobody.
     fn charge_runner<L: ReadyList>(&mut self, runs: Runs, count: u64, list: &mut L)
         requires runner { Runner runs count self.old }
-        requires mirror { Mirrors self.old (L.ReadyList.held list.old) }
-        requires memory { L.ReadyList.ok list.old }
+        requires mirrored { Mirrored L.ReadyList self.old list.old }
         ensures tasks { self.new ≡ charged_in runs count self.old }
-        ensures mirror { Mirrors self.new (L.ReadyList.held list.new) }
-        ensures memory { L.ReadyList.ok list.new }
+        ensures mirrored { Mirrored L.ReadyList self.new list.new }
     {
         if let Runs::Task { number, .. } = runs {
-            let place = number as usize - 1;
-            let slot = self.slots[place];
-            self.store(list, place, charge(count, slot));
+            let slot = self.task_at(number);
+            self.store(list, number, charge(count, slot));
         }
     }
 
     // Deals with every deadline that has come.
     fn release_due<L: ReadyList>(&mut self, clock: u64, list: &mut L)
         requires in_time { clock ≤ 2 ^ 40 }
-        requires mirror { Mirrors self.old (L.ReadyList.held list.old) }
-        requires memory { L.ReadyList.ok list.old }
+        requires mirrored { Mirrored L.ReadyList self.old list.old }
         ensures tasks { self.new ≡ map (due_at clock) self.old }
-        ensures mirror { Mirrors self.new (L.ReadyList.held list.new) }
-        ensures memory { L.ReadyList.ok list.new }
+        ensures mirrored { Mirrored L.ReadyList self.new list.new }
     {
         for (place, slot) in self.slots.iter_mut().enumerate() {
             let next = due_at(clock, *slot);

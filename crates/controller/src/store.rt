@@ -2,7 +2,7 @@
 // Memory and list stay two parameters with their tie in each contract: both are lent to every call, by a rule of the project,
 // and a struct of two `&mut` could not keep the tie as its own, since it is false between the write of the one and of the other.
 ghost use Rattle.std.specs.Prelude.{◌≡◌, ◌+◌, ◌-◌, ◌<◌, true, slice_set};
-ghost use Rattle.controller.specs.Tasks.{Fits, InSlot, Mirrors, no_tasks};
+ghost use Rattle.controller.specs.Tasks.{Fits, InSlot, Mirrored, no_tasks};
 ghost use Rattle.controller.specs.Tied.{TiedTo};
 ghost use Rattle.order.specs.Orders.{in_range};
 ghost use Rattle.ready.specs.Held.{entry_at};
@@ -13,13 +13,6 @@ use order::entries::Entry;
 use ready::ReadyList;
 use rules::tasks::{Task, entry_of};
 
-// Whether the list need not be touched.
-fn unchanged(was: Option<Entry>, is: Option<Entry>) -> bool
-    ensures { result ≡ true → was ≡ is }
-{
-    was == is
-}
-
 // Puts what a slot's entry is now in the place of what it was.
 fn relist<L: ReadyList>(list: &mut L, number: u32, was: Option<Entry>, is: Option<Entry>)
     requires range { in_range number ≡ true }
@@ -29,7 +22,8 @@ fn relist<L: ReadyList>(list: &mut L, number: u32, was: Option<Entry>, is: Optio
     ensures list { L.ReadyList.held list.new ≡ slice_set (L.ReadyList.held list.old) (number - 1) is }
     ensures memory { L.ReadyList.ok list.new }
 {
-    if unchanged(was, is) {
+    // then the list need not be touched
+    if was == is {
         return;
     }
     let _ = list.take_out(number);
@@ -58,17 +52,15 @@ pub(crate) fn rewrite<L: ReadyList>(
 }
 
 impl TaskMemory {
-    // Writes the slot at a place.
-    pub(crate) fn store<L: ReadyList>(&mut self, list: &mut L, place: usize, new: Option<Task>)
-        requires place { place < 64 }
-        requires fits { InSlot place new }
-        requires mirror { Mirrors self.old (L.ReadyList.held list.old) }
-        requires memory { L.ReadyList.ok list.old }
-        ensures tasks { self.new ≡ slice_set self.old place new }
-        ensures mirror { Mirrors self.new (L.ReadyList.held list.new) }
-        ensures memory { L.ReadyList.ok list.new }
+    // Writes the slot of a number.
+    pub(crate) fn store<L: ReadyList>(&mut self, list: &mut L, number: u32, new: Option<Task>)
+        requires range { in_range number ≡ true }
+        requires fits { InSlot (number - 1) new }
+        requires mirrored { Mirrored L.ReadyList self.old list.old }
+        ensures tasks { self.new ≡ slice_set self.old (number - 1) new }
+        ensures mirrored { Mirrored L.ReadyList self.new list.new }
     {
-        rewrite(&mut self.slots[place], list, place as u32 + 1, new);
+        rewrite(&mut self.slots[number as usize - 1], list, number, new);
     }
 
     // Leaves no task and an empty list, whatever the memory held before.

@@ -9,7 +9,7 @@ use crate::states::Resting;
 use ready::ReadyList;
 use rules::refusals::Refusal;
 use rules::task_at::TaskAt;
-use rules::withdrawals::{Departure, departure_of};
+use rules::withdrawals::Departure;
 
 impl Resting {
     // Withdraws the task that has the number, and tells when it goes. A refusal changes nothing.
@@ -31,7 +31,7 @@ impl Resting {
             task,
         }
         .withdraw()?;
-        memory.store(list, number as usize - 1, slot);
-        Ok(departure_of(slot))
+        memory.store(list, number, slot);
+        Ok(Departure::from(slot))
     }
 }

@@ -45,4 +45,4 @@ returns-clause-tied g c =
     let done : out ≡ map (due_at (turn.start + n)) (charged_in turn.runs n tasks) = c.release_due.ensures.tasks ∙ ap (map (due_at (turn.start + n))) c.charge_runner.ensures.tasks in
     subst (λ ts. Tied (turn.start + n) ts held ok) (sym done)
     (settled_tied g.L.Order.TieOrder.before g.met.L.Order.TieOrder.lawful turn tasks (g.L.ReadyList.held c.args.list.now) (g.L.ReadyList.ok c.args.list.now) opened
-    (g.met.L.ReadyList.slotted c.args.list.now c.requires.rest.memory) n c.if-count-self.false held ok (subst (λ ts. Mirrors ts held) done c.release_due.ensures.mirror) c.release_due.ensures.memory)
+    (g.met.L.ReadyList.slotted c.args.list.now c.requires.rest.memory) n c.if-count-self.false held ok (subst (λ ts. Mirrors ts held) done c.release_due.ensures.mirrored.mirror) c.release_due.ensures.mirrored.memory)

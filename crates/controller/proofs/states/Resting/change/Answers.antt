@@ -47,4 +47,4 @@ returns-clause-tied g c =
     let held' = g.L.ReadyList.held c.store.new.list in
     let ok' = g.L.ReadyList.ok c.store.new.list in
     subst (λ ts. Tied T ts held' ok') (sym c.store.ensures.tasks)
-    (slot_tied T tasks held ok c.requires c.args.number t is (Some u) kept held' ok' (subst (λ ts. Mirrors ts held') c.store.ensures.tasks c.store.ensures.mirror) c.store.ensures.memory)
+    (slot_tied T tasks held ok c.requires c.args.number t is (Some u) kept held' ok' (subst (λ ts. Mirrors ts held') c.store.ensures.tasks c.store.ensures.mirrored.mirror) c.store.ensures.mirrored.memory)
