@@ -18,7 +18,7 @@ pub enum Call<'a> {
 }
 
 // What a call has done.
-#[derive(Clone, Copy)]
+#[derive(Clone, Copy, PartialEq, Eq, Debug)]
 pub enum Reply {
     // make: how many tasks the sheet has
     Made(u32),

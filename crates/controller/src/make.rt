@@ -28,6 +28,7 @@ impl TaskMemory {
             rate: task.rate.value,
             period: task.period.value,
         };
+        // a match, since of a closure in `map_err` no clause followed
         match self.enrol(0, asked, list) {
             Ok(()) => Ok(()),
             Err(why) => Err(SheetFault::InTable(why, place_of(why, task))),

@@ -176,7 +176,8 @@ fn read_record(byte: u8, rest: Rest) -> Result<(Step, usize), StepFault>
     Ok(read_step(code, rest)?)
 }
 
-// The call record at an offset of the input, with the offset just past it, or none at the input's end.
+// The call record at an offset of the input, with the offset just past it, or none at the input's end. It opens as `sheet::records::record_at` does;
+// a function for both would take the reading behind the byte as a closure, and its contract would be longer than the lines that they share.
 pub fn step_at(input: &[u8], place: usize) -> Result<Option<(Step, usize)>, BadStep>
     ensures { result ≡ step_at input.now place }
 {
@@ -187,6 +188,7 @@ pub fn step_at(input: &[u8], place: usize) -> Result<Option<(Step, usize)>, BadS
         bytes,
         place: place + 1,
     };
+    // a match, since of a closure in `map_err` no clause followed
     match read_record(*byte, rest) {
         Ok(read) => Ok(Some(read)),
         Err(why) => Err(BadStep { code: *byte, why }),

@@ -20,7 +20,7 @@ fn settle_turn<L: ReadyList>(
     ensures tied { TiedTo L.ReadyList result.0 memory.new list.new }
 {
     let runs = opened.turn().runs;
-    match opened.settle(count as u64, memory, list) {
+    match opened.settle(u64::from(count), memory, list) {
         Ok(rest) => (rest, Ok(Accepted::Ran(runs))),
         Err((opened, why)) => (opened.give_up(memory, list), Err(why.into())),
     }

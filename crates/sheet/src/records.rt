@@ -29,7 +29,7 @@ impl From<NumberFault> for RecordFault {
 }
 
 // A fault as it is reported: its number, its layer and the offset of the first byte of the field at fault.
-// Numbers, since a fault is printed so; until then its kinds are the cases of the fault types.
+// Numbers, its layer too, since they are only printed and never matched on; until then the kinds are the cases of the fault types.
 #[derive(Clone, Copy, PartialEq, Eq, Debug)]
 pub struct Told {
     pub number: u8,

@@ -5,7 +5,8 @@ ghost use Rattle.sheet.specs.Walks.{records_left};
 
 use crate::records::{Record, RecordFault, record_at};
 
-// The records of a sheet from the left. The first fault is the last item.
+// The records of a sheet from the left. The first fault is the last item. `rehearsal::scripts` has a twin over call records,
+// since one iterator over both needs a trait for reader, fault and value, which is longer than a second `next`.
 #[derive(Clone, Copy)]
 pub struct Records<'a> {
     sheet: &'a [u8],

@@ -19,7 +19,7 @@ fn over<L: ReadyList>(
     list: &mut L,
 ) -> Result<(), Fail> {
     let played = rehearse(rt.alloc(), input, list)?;
-    assert!(rt; played.as_str() == lines);
+    assert_eq!(rt; played.as_str(), lines);
     Ok(())
 }
 
