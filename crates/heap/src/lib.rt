@@ -15,8 +15,9 @@ use memory::Tree;
 use order::entries::{Entry, is_task_number};
 use order::ties::TieOrder;
 use ready::ReadyList;
+use std::marker::Model;
 
-// The tree holds the entries; the order says who of two stands above.
+// The tree holds the entries; the order says who of two stands above. Contracts see the tree.
 #[derive(Drop)]
 pub struct Heap<O> {
     tree: Tree,
@@ -24,11 +25,19 @@ pub struct Heap<O> {
     order: O,
 }
 
+impl<O> Model for Heap<O> {
+    ghost use Rattle.heap.specs.declared.memory.Tree.{Tree};
+
+    ghost Value = { Tree };
+
+    ghost view = { λ h. h.tree };
+}
+
 impl<O: TieOrder> Heap<O> {
     // A list that holds nothing.
     pub fn new(order: O) -> Heap<O>
-        ensures list { held_in result.tree ≡ none }
-        ensures memory { Sound O.TieOrder.before result.tree }
+        ensures list { held_in result ≡ none }
+        ensures memory { Sound O.TieOrder.before result }
     {
         Heap {
             tree: Tree::new(),
@@ -40,9 +49,9 @@ impl<O: TieOrder> Heap<O> {
 impl<O: TieOrder> ReadyList for Heap<O> {
     type Order = O;
 
-    ghost held = { λ h. held_in h.tree };
+    ghost held = { λ h. held_in h };
 
-    ghost ok = { λ h. Sound O.TieOrder.before h.tree };
+    ghost ok = { λ h. Sound O.TieOrder.before h };
 
     ghost slotted = { Prim.search rules };
 

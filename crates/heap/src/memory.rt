@@ -7,7 +7,7 @@ use order::entries::{Entry, slot_of};
 
 // Place 0 is the root; the children of place p are the places 2p + 1 and 2p + 2. What stands at
 // places from `len` on, and what the index says of a number that is not held, has no meaning.
-// Two arrays, since one goes by place and the other by number; of fixed size, as no heap may be used.
+// Two arrays of fixed size, since no heap may be used: one goes by place, the other by number. A vector of fixed capacity (`arrayvec`) would save the count alone.
 // A place is a plain number, asked to be below 64: it is halved and doubled at each step, and a type of its own would be left each time.
 #[derive(Drop)]
 pub struct Tree {

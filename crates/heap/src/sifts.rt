@@ -58,6 +58,8 @@ impl Tree {
             .or_else(|| self.sinks::<O>(hole, e))
     }
 
+    // In the three methods below `Sound` is no part of the type `Tree`: it depends on the order, which the tree does not know.
+
     // Lays the entry where it belongs on the way from the root over the place to a leaf.
     fn settle<O: TieOrder>(&mut self, place: usize, e: Entry)
         requires { Holed O.TieOrder.before (held_in (laid self.old place e)) (laid self.old place e) place }

@@ -10,8 +10,9 @@ ghost use Rattle.std.proofs.Common.{rules};
 use order::entries::{Entry, slot_of};
 use order::ties::TieOrder;
 use ready::ReadyList;
+use std::marker::Model;
 
-// One slot for each task number; number k lies in slot k - 1.
+// One slot for each task number; number k lies in slot k - 1. Contracts see the slots.
 #[derive(Drop)]
 pub struct Table<O> {
     slots: [Option<Entry>; 64],
@@ -19,10 +20,18 @@ pub struct Table<O> {
     order: O,
 }
 
+impl<O> Model for Table<O> {
+    ghost use Rattle.ready.specs.Held.{Held};
+
+    ghost Value = { Held };
+
+    ghost view = { λ t. t.slots };
+}
+
 impl<O: TieOrder> Table<O> {
     // A list that holds nothing.
     pub fn new(order: O) -> Table<O>
-        ensures { result.slots ≡ none }
+        ensures { result ≡ none }
     {
         Table {
             slots: [None; 64],
@@ -44,9 +53,9 @@ fn better<O: TieOrder>(best: Option<Entry>, slot: Option<Entry>) -> Option<Entry
 impl<O: TieOrder> ReadyList for Table<O> {
     type Order = O;
 
-    ghost held = { λ t. t.slots };
+    ghost held = { λ t. t };
 
-    ghost ok = { λ t. Slotted t.slots };
+    ghost ok = { λ t. Slotted t };
 
     ghost slotted = { Prim.search rules };
 
