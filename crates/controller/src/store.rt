@@ -13,7 +13,8 @@ use order::entries::Entry;
 use ready::ReadyList;
 use rules::tasks::{Task, entry_of};
 
-// Puts what a slot's entry is now in the place of what it was.
+// Puts what a slot's entry is now in the place of what it was. Numbers stay plain here and below, asked to be task numbers: an entry's is one,
+// since `put` answers any, so a type of task numbers would be made at each call and left at each entry.
 fn relist<L: ReadyList>(list: &mut L, number: u32, was: Option<Entry>, is: Option<Entry>)
     requires range { in_range number ≡ true }
     requires held { entry_at (L.ReadyList.held list.old) number ≡ was }

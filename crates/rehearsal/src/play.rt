@@ -97,6 +97,7 @@ fn play_record<L: ReadyList>(
 }
 
 // The line of a sheet with so many tasks, and a line for each call record from an offset on.
+// The controller is handed back with every error, and so no `?`: it cannot be dropped.
 fn play<L: ReadyList>(
     first: Resting,
     tasks: u32,
