@@ -45,10 +45,8 @@ pub(crate) fn place_of(why: Refusal, task: TaskRecord) -> usize
     ensures { result ≡ place_of why (task_value task.entry) }
 {
     match why {
-        Refusal::RateOutOfRange => task.rate.place,
-        Refusal::RatesExceeded => task.rate.place,
-        Refusal::PeriodOutOfRange => task.period.place,
-        Refusal::JobTooSmall => task.period.place,
+        Refusal::RateOutOfRange | Refusal::RatesExceeded => task.rate.place,
+        Refusal::PeriodOutOfRange | Refusal::JobTooSmall => task.period.place,
         _ => task.number.place,
     }
 }

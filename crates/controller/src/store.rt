@@ -9,7 +9,7 @@ ghost use Rattle.ready.specs.Held.{entry_at};
 ghost use Rattle.rules.specs.Tasks.{entry_of};
 
 use crate::memory::TaskMemory;
-use order::entries::Entry;
+use order::entries::{Entry, slot_of};
 use ready::ReadyList;
 use rules::tasks::{Task, entry_of};
 
@@ -61,7 +61,8 @@ impl TaskMemory {
         ensures tasks { self.new ≡ slice_set self.old (number - 1) new }
         ensures mirrored { Mirrored L.ReadyList self.new list.new }
     {
-        rewrite(&mut self.slots[number as usize - 1], list, number, new);
+        let place = slot_of(number).unwrap();
+        rewrite(&mut self.slots[place], list, number, new);
     }
 
     // Leaves no task and an empty list, whatever the memory held before.

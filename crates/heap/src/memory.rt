@@ -64,7 +64,8 @@ impl Tree {
         (place < self.len && self.entry(place).number == number).then_some(place)
     }
 
-    // Lays an entry at a place, and notes the place under the entry's number.
+    // Lays an entry at a place, and notes the place under the entry's number, which is asked to be a task number and no type of its own:
+    // an entry has it as a plain one, since `put` answers any.
     pub fn lay(&mut self, place: usize, e: Entry)
         requires within { place < 64 }
         requires number { in_range e.number ≡ true }

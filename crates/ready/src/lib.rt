@@ -15,7 +15,7 @@ pub trait ReadyList {
     // the entries that the list holds
     ghost held: { Self → Held };
 
-    // the list's own memory is in order
+    // the list's own memory is in order; no invariant of the type, since it may depend on the order, which a list's memory does not know
     ghost ok: { Self → Type 0 };
 
     // Leaves nothing in the list, whatever its memory held before.

@@ -74,7 +74,7 @@ impl fmt::Display for Refused {
 
 pub type Outcome = Result<Accepted, Refused>;
 
-// The line of one call: the clock after it, its code byte and what came of it.
+// The line of one call: the clock after it, its code byte and what came of it. A byte and no `Code`: a bad record may have any, and a sheet's line has 0.
 #[derive(Clone, Copy, PartialEq, Eq, Debug)]
 pub struct Line {
     pub clock: u64,

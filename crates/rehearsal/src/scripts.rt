@@ -106,7 +106,7 @@ impl From<StepFault> for u8 {
     }
 }
 
-// A record that ends the run: its code byte and its fault.
+// A record that ends the run: its code byte, which may be any, and its fault.
 #[derive(Clone, Copy, PartialEq, Eq, Debug)]
 pub struct BadStep {
     pub code: u8,
@@ -148,6 +148,7 @@ fn read_step(code: Code, rest: Rest) -> Result<(Step, usize), RecordFault>
             };
             Ok((Step::Admit { asked }, end))
         }
+        // the next two differ in the case that they make; a function that took it would need a clause on it
         Code::Rate => {
             let ([number, rate], end) = read_numbers::<2>(rest)?;
             let change = Change::Rate(rate);

@@ -36,7 +36,7 @@ fn bad_byte(count: usize, rest: Rest<'_>) -> Option<usize>
         .map(|index| rest.place + index)
 }
 
-// The text that the length field `size` announces.
+// The text that the length field `size` announces. Here and below the size and what is left stay two parameters: `read_field` gives them as a pair.
 fn read_text(size: Field, rest: Rest<'_>) -> Result<&[u8], RecordFault>
     ensures { text_of result ≡ text_in size (left_of rest.entry) }
 {
@@ -102,7 +102,7 @@ fn read_note(rest: Rest<'_>) -> Result<Found<'_>, RecordFault>
     })
 }
 
-// A kind is matched once and kept nowhere: an enum made by `TryFrom` would match the same three arms a second time.
+// Bytes and no enum: a kind is matched once and kept nowhere; made by `TryFrom`, its two cases would be matched a second time and used by nothing.
 const TASK: u8 = 1;
 
 const NOTE: u8 = 2;
@@ -118,7 +118,7 @@ fn read_body(kind: u8, rest: Rest<'_>, place: usize) -> Result<Found<'_>, Record
     }
 }
 
-// The record of the sheet that begins at `place`, or none at the end of the sheet and past it.
+// The record of the sheet that begins at `place`, or none at the end of the sheet and past it. No `Rest` is asked for, since a place may lie past the end.
 pub fn record_at(sheet: &[u8], place: usize) -> Result<Option<Found<'_>>, RecordFault>
     ensures { record_of result ≡ record_at sheet.now place }
 {
