@@ -1,7 +1,6 @@
 // Admission to the table: the rule of one task, with what it asks of the others.
-ghost use Rattle.std.specs.Prelude.{◌≡◌, ◌≤◌, map, length};
+ghost use Rattle.std.specs.Prelude.{◌≡◌, map};
 ghost use Rattle.controller.specs.Admitting.{accepted, admission_to, with_task};
-ghost use Rattle.controller.specs.Tasks.{rates as rates_of};
 ghost use Rattle.controller.specs.Tied.{TiedTo};
 ghost use Rattle.rules.specs.Tasks.{entry_of};
 

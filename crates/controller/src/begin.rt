@@ -1,5 +1,5 @@
 // Begin: the turn that the ready list and the deadlines ask for.
-ghost use Rattle.std.specs.Prelude.{◌≡◌, ◌≤◌, length};
+ghost use Rattle.std.specs.Prelude.{◌≡◌, ◌≤◌};
 ghost use Rattle.controller.specs.Tied.{InTable, LongEnough, OpenAfter, TiedTo};
 ghost use Rattle.controller.specs.Turns.{beginning, length_of, nearest as nearest_of, runs_of};
 ghost use Rattle.ready.specs.Held.{first_of};

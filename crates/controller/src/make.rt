@@ -1,5 +1,5 @@
 // Make: a controller from a sheet of tasks.
-ghost use Rattle.std.specs.Prelude.{◌≡◌, map, length, is_some, count_by};
+ghost use Rattle.std.specs.Prelude.{◌≡◌, map};
 ghost use Rattle.controller.specs.Making.{after_record, enrolled, made, made_tasks, make_answer, with_tasks};
 ghost use Rattle.controller.specs.Tasks.{no_tasks};
 ghost use Rattle.controller.specs.Tied.{TiedTo};

@@ -35,8 +35,8 @@ impl TaskMemory {
         ensures mirrored { Mirrored L.ReadyList self.new list.new }
     {
         for (place, slot) in self.slots.iter_mut().enumerate() {
-            // the number of the slot at a place: the one way back from `slot_of`
             let next = due_at(clock, *slot);
+            // the number of the slot at a place: the one way back from `slot_of`
             rewrite(slot, list, place as u32 + 1, next);
         }
     }

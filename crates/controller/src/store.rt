@@ -1,7 +1,7 @@
 // The one writer of tasks: it keeps the table and the ready list together.
 // Memory and list stay two parameters with their tie in each contract: both are lent to every call, by a rule of the project,
 // and a struct of two `&mut` could not keep the tie as its own, since it is false between the write of the one and of the other.
-ghost use Rattle.std.specs.Prelude.{◌≡◌, ◌+◌, ◌-◌, ◌<◌, true, slice_set};
+ghost use Rattle.std.specs.Prelude.{◌≡◌, ◌-◌, true, slice_set};
 ghost use Rattle.controller.specs.Tasks.{Fits, InSlot, Mirrored, no_tasks};
 ghost use Rattle.controller.specs.Tied.{TiedTo};
 ghost use Rattle.order.specs.Orders.{in_range};
@@ -13,8 +13,8 @@ use order::entries::{Entry, slot_of};
 use ready::ReadyList;
 use rules::tasks::{Task, entry_of};
 
-// Puts what a slot's entry is now in the place of what it was. Numbers stay plain here and below, asked to be task numbers: an entry's is one,
-// since `put` answers any, so a type of task numbers would be made at each call and left at each entry.
+// Puts what a slot's entry is now in the place of what it was. Numbers stay plain here and below, and are asked to be task numbers: an entry has
+// a plain one, since `put` answers any, and a type of task numbers would be made at each call and left at each entry.
 fn relist<L: ReadyList>(list: &mut L, number: u32, was: Option<Entry>, is: Option<Entry>)
     requires range { in_range number ≡ true }
     requires held { entry_at (L.ReadyList.held list.old) number ≡ was }

@@ -1,6 +1,6 @@
 // Sifting: an entry is to stand in a hole of the tree, and moves along a path until it may.
 // The entries on the way are pulled over the hole, and the moved one is written once, at the end.
-ghost use Rattle.std.specs.Prelude.{◌≡◌, ◌<◌, ◌≤◌, true};
+ghost use Rattle.std.specs.Prelude.{◌≡◌, ◌<◌, true};
 ghost use Rattle.heap.specs.Sifts.{Holed, child_of, next_place, rises_to, sinks_to};
 ghost use Rattle.heap.specs.Sound.{Sound, above, entry_in, held_in, laid};
 ghost use Rattle.ready.specs.Held.{free, put_in, taken_out};
