@@ -5,8 +5,10 @@ use Rattle.controller.specs.declared.states.Runs.TheVariants.{Idle, Task}
 use Rattle.rehearsal.specs.Scripts.{number_of}
 use Rattle.rehearsal.specs.declared.lines.Accepted.{Accepted}
 use Rattle.rehearsal.specs.declared.lines.Accepted.TheVariants.{Call, Ran, Sheet}
+use Rattle.rehearsal.specs.declared.lines.Numbers.{Numbers}
+use Rattle.rehearsal.specs.declared.lines.Numbers.TheVariants.{One, Three}
 use Rattle.rehearsal.specs.declared.lines.Refused.{Refused}
-use Rattle.rehearsal.specs.declared.lines.Refused.TheVariants.{BadRecord, BadSheet, ByRule}
+use Rattle.rehearsal.specs.declared.lines.Refused.TheVariants.{BadRecord, BadSheet, ByNumbers, ByRule}
 use Rattle.rules.specs.Refusals.{code}
 use Rattle.sheet.specs.declared.records.Told.{Told}
 
@@ -25,10 +27,19 @@ accepted_as (Ran Idle) = codes "run 0"
 abbrev pub told_as : Told → List ℕ
 told_as fault = codes "no " ++ (decimal fault.number ++ (codes " " ++ (decimal fault.layer ++ (codes " " ++ decimal fault.place))))
 
+-- a sheet's fault has three numbers, every other refusal one
+abbrev pub numbers_of : Refused → Numbers
+numbers_of (BadSheet fault) = Three (told_sheet fault)
+numbers_of (ByRule why) = One (code why)
+numbers_of (BadRecord fault) = One (number_of fault)
+numbers_of (ByNumbers numbers) = numbers
+
+abbrev pub numbers_as : Numbers → List ℕ
+numbers_as (One number) = codes "no " ++ decimal number
+numbers_as (Three fault) = told_as fault
+
 abbrev pub refused_as : Refused → List ℕ
-refused_as (BadSheet fault) = told_as (told_sheet fault)
-refused_as (ByRule why) = codes "no " ++ decimal (code why)
-refused_as (BadRecord fault) = codes "no " ++ decimal (number_of fault)
+refused_as refused = numbers_as (numbers_of refused)
 
 -- each outcome's word and values
 abbrev pub said : Outcome → List ℕ

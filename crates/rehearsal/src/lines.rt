@@ -1,7 +1,7 @@
 // The lines of a rehearsal.
 ghost use Rattle.std.specs.Prelude.{◌≡◌, ◌++◌, string_bytes, OnOk, Some};
 ghost use Rattle.rehearsal.specs.declared.lines.Refused.TheVariants.{ByRule};
-ghost use Rattle.rehearsal.specs.Lines.{accepted_as, line_of, refused_as};
+ghost use Rattle.rehearsal.specs.Lines.{accepted_as, line_of, numbers_of, refused_as};
 
 use crate::scripts::StepFault;
 use controller::faults::SheetFault;
@@ -34,6 +34,13 @@ impl fmt::Display for Accepted {
     }
 }
 
+// What is printed of a refusal: its number alone, or number, layer and place of a sheet's fault.
+#[derive(Clone, Copy, PartialEq, Eq, Debug)]
+pub enum Numbers {
+    One(u8),
+    Three(Told),
+}
+
 // Why a sheet or a call was not accepted.
 #[derive(Clone, Copy, PartialEq, Eq, Debug)]
 pub enum Refused {
@@ -43,6 +50,8 @@ pub enum Refused {
     ByRule(Refusal),
     // The call's record has a fault.
     BadRecord(StepFault),
+    // Known by its numbers alone, which may be any: for lines of others, since a rehearsal has the three above.
+    ByNumbers(Numbers),
 }
 
 impl From<Refusal> for Refused {
@@ -53,21 +62,32 @@ impl From<Refusal> for Refused {
     }
 }
 
+impl From<Refused> for Numbers {
+    ghost from_gives = { λ refused numbers. numbers ≡ numbers_of refused };
+
+    fn from(value: Refused) -> Numbers {
+        match value {
+            Refused::BadSheet(fault) => Numbers::Three(Told::from(fault)),
+            Refused::ByRule(why) => Numbers::One(u8::from(why)),
+            Refused::BadRecord(fault) => Numbers::One(u8::from(fault)),
+            Refused::ByNumbers(numbers) => numbers,
+        }
+    }
+}
+
 impl fmt::Display for Refused {
     ghost output = { λ refused. Some (refused_as refused) };
 
     fn fmt<W: fmt::Write>(&self, f: &mut fmt::Formatter<W>) -> fmt::Result {
-        match self {
-            Refused::BadSheet(fault) => {
-                let Told {
+        match Numbers::from(*self) {
+            Numbers::One(number) => write!(f, "no {number}"),
+            Numbers::Three(
+                Told {
                     number,
                     layer,
                     place,
-                } = Told::from(*fault);
-                write!(f, "no {number} {layer} {place}")
-            }
-            Refused::ByRule(why) => write!(f, "no {}", u8::from(*why)),
-            Refused::BadRecord(fault) => write!(f, "no {}", u8::from(*fault)),
+                },
+            ) => write!(f, "no {number} {layer} {place}"),
         }
     }
 }
