@@ -1,9 +1,9 @@
 -- The steps of a sift: what each test says, and that a turn or the end keeps the tree's order.
-use Rattle.std.proofs.Common.{◌≡◌, ℕ, ◌⊎◌, inl, inr, ◌+◌, ◌<◌, Bool, true, false, ◌&&◌, ltb, cond, is_some, Some, None, Option, ◌-◌, sym, refl, ap, ◌∙◌, subst, ⊎_elim, arith}
+use Rattle.std.proofs.Common.{◌≡◌, ℕ, ◌⊎◌, inl, inr, ◌+◌, ◌<◌, Bool, true, false, ◌&&◌, ltb, nat_lt, cond, is_some, IfSome, Some, None, Option, ◌-◌, sym, refl, ap, ◌∙◌, subst, ⊎_elim, arith}
 use Rattle.heap.proofs.Paths.{by, linked, risen, sound, sunk, turned}
 use Rattle.heap.proofs.Moves.{Exchanged, entry_kept, in_hole, moved_number, pulled, pulled_number}
 use Rattle.heap.proofs.Standing.{apart, held_is}
-use Rattle.heap.specs.Sifts.{AfterParent, BeforeChildren, Holed, first_child, next_place, rises, sinks_to}
+use Rattle.heap.specs.Sifts.{AfterParent, BeforeChildren, Holed, first_child, next_place, rises, rises_to, sinks_to}
 use Rattle.heap.specs.Sound.{Sound, entry_in, held_in, laid, left_child, parent}
 use Rattle.heap.specs.declared.memory.Tree.{Tree}
 use Rattle.order.specs.Orders.{Lawful, in_range}
@@ -27,6 +27,23 @@ fewer_up up up' down down' h c len len' yes' no' lt = grind arith
 
 fewer_down : (up up' : Bool) (down down' : Option ℕ) (h c len len' : ℕ) → up ≡ false → down ≡ Some c → up' ≡ false → h < c → c < len → len' ≡ len → turns up' down' c len' < turns up down h len
 fewer_down up up' down down' h c len len' no' yes' out lt within same = grind arith
+
+not_lower : (c h : ℕ) → h < c → nat_lt c h ≡ false
+not_lower c h lt = grind (arith, nat_tests)
+
+-- with no way down the next place is up, and with none up it is down
+only_up : (up : Bool) (over : ℕ) (down : Option ℕ) → down ≡ None → cond up (Some over) None ≡ cond up (Some over) down
+only_up up over down no' = grind (arith, cases_Bool up)
+
+only_down : (up : Bool) (over : ℕ) (down : Option ℕ) → up ≡ false → down ≡ cond up (Some over) down
+only_down up over down no' = grind arith
+
+-- the place above comes sooner, and a child later
+pub rises_ahead : (before : Entry → Entry → Bool) (tree : Tree) (h : ℕ) (x : Entry) (up : Bool) → up ≡ true → IfSome (rises_to before tree h x) (λ to. nat_lt to h ≡ up)
+rises_ahead before tree h x up is = grind (arith, nat_tests, cases_Bool (rises before tree h x))
+
+pub sinks_ahead : (before : Entry → Entry → Bool) (tree : Tree) (h : ℕ) (x : Entry) (up : Bool) → up ≡ false → IfSome (sinks_to before tree h x) (λ to. nat_lt to h ≡ up)
+sinks_ahead before tree h x up is = grind (arith, nat_tests)
 
 -- what is never something is nothing
 none_from : {A : Type 0} (o : Option A) → ((a : A) → o ≡ Some a → ⊥) → o ≡ None
@@ -157,6 +174,9 @@ module _ (before : Entry → Entry → Bool) (laws : Lawful before) (tree : Tree
 pub record Turned (before : Entry → Entry → Bool) (held : Held) (tree : Tree) (h : ℕ) (new : Tree) (c : ℕ) (x : Entry) : Type 0 where
   pub again : Holed before held (laid new c x) c
   pub fewer : turns_left before new c x < turns_left before tree h x
+  -- what went up can only go on up, and what went down only down
+  pub on_up : nat_lt c h ≡ true → rises_to before new c x ≡ next_place before new c x
+  pub on_down : nat_lt c h ≡ false → sinks_to before new c x ≡ next_place before new c x
 
 module _ (before : Entry → Entry → Bool) (laws : Lawful before) (tree : Tree) (held : Held) (h : ℕ) (x : Entry) (o : Holed before held (laid tree h x) h) (c : ℕ) (is : Some c ≡ next_place before tree h x) where
   -- the next place is another place of the tree
@@ -169,7 +189,11 @@ module _ (before : Entry → Entry → Bool) (laws : Lawful before) (tree : Tree
       let best = (sinks_yes before laws tree held h x o c down.1).0 in (best.within, λ e. omega (arith, best.low, best.child)))
       (next_is before laws tree held h x o (Some c) is)
 
-  -- so what stands there has a task number
+  -- so it lies in the memory
+  pub next_below : c < 64
+  next_below = omega (arith, next_within.0, tree.room)
+
+  -- and what stands there has a task number
   pub next_range : (y : Entry) → y ≡ entry_in tree c → in_range y.number ≡ true
   next_range y its = pulled_range before laws tree held h x o c next_within.0 next_within.1 y its
 
@@ -187,6 +211,8 @@ module _ (before : Entry → Entry → Bool) (laws : Lawful before) (tree : Tree
       record {
         again = moved.0;
         fewer = fewer_up (rises before tree h x) (rises before new c x) (sinks_to before tree h x) (sinks_to before new c x) h c tree.len new.len up.0 (stays_below before laws new held c x moved.0 moved.1) (omega (arith, told.0));
+        on_up = λ _. only_up (rises before new c x) (parent c) (sinks_to before new c x) (stays_below before laws new held c x moved.0 moved.1);
+        on_down = λ out. absurd (true≢false (sym (lt-ltb c h (omega (arith, told.0))) ∙ out));
       })
       (λ (down : (rises before tree h x ≡ false) × (Some c ≡ sinks_to before tree h x)).
       let told = sinks_yes before laws tree held h x o c down.1 in
@@ -194,5 +220,7 @@ module _ (before : Entry → Entry → Bool) (laws : Lawful before) (tree : Tree
       record {
         again = moved.0;
         fewer = fewer_down (rises before tree h x) (rises before new c x) (sinks_to before tree h x) (sinks_to before new c x) h c tree.len new.len down.0 (sym down.1) (stays_above before laws new held c x moved.0 moved.1) (omega (arith, told.0.low, told.0.child)) next_within.0 len;
+        on_up = λ in'. absurd (true≢false (sym in' ∙ not_lower c h (omega (arith, told.0.low, told.0.child))));
+        on_down = λ _. only_down (rises before new c x) (parent c) (sinks_to before new c x) (stays_above before laws new held c x moved.0 moved.1);
       })
       (next_is before laws tree held h x o (Some c) is)

@@ -72,6 +72,7 @@ impl Tree {
         ensures { self.new ≡ laid self.old place e }
     {
         self.entries[place] = e;
-        self.places[slot_of(e.number).unwrap()] = place;
+        // no `slot_of`: what it asks is known here, and would be asked once more for each entry that moves
+        self.places[(e.number - 1) as usize] = place;
     }
 }

@@ -33,10 +33,13 @@ impl Tree {
     {
         let left = 2 * hole + 1;
         let right = left + 1;
+        if left >= self.len {
+            return None;
+        }
         if right < self.len && O::comes_before(self.entry(right), self.entry(left)) {
             Some(right)
         } else {
-            (left < self.len).then_some(left)
+            Some(left)
         }
     }
 
@@ -67,9 +70,17 @@ impl Tree {
         ensures memory { Sound O.TieOrder.before self.new }
     {
         let mut hole = place;
-        while let Some(next) = self.next::<O>(hole, e) {
-            self.lay(hole, self.entry(next));
-            hole = next;
+        let mut next = self.next::<O>(hole, e);
+        // what rose comes before all below it, and what sank after the one above it: there is one way on, and only that is looked at
+        let up = next.is_some_and(|to| to < place);
+        while let Some(to) = next {
+            self.lay(hole, self.entry(to));
+            hole = to;
+            next = if up {
+                self.rises::<O>(hole, e)
+            } else {
+                self.sinks::<O>(hole, e)
+            };
         }
         self.lay(hole, e);
     }
