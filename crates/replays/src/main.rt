@@ -3,6 +3,7 @@
 
 use heap::Heap;
 use order::ties::{ByNumber, ByRate, TieOrder};
+use ready::ReadyList;
 use rehearsal::play::rehearse;
 use std::fs;
 use table::Table;
@@ -15,16 +16,27 @@ fn stored(rt: &HostRuntime, number: u32, ending: &str) -> anyhow::Result<Vec<u8>
     Ok(fs::read(rt, path.as_str())?)
 }
 
-// Whether a rehearsal in this order prints what is stored, over both lists.
+// Whether a rehearsal over this list prints what is stored.
+fn prints<L: ReadyList>(
+    rt: &HostRuntime,
+    input: &[u8],
+    stored: &[u8],
+    list: &mut L,
+) -> anyhow::Result<bool> {
+    let lines = rehearse(rt.alloc(), input, list)?;
+    Ok(lines.as_bytes() == stored)
+}
+
+// Whether a rehearsal in this order prints what is stored, over both lists. One is compared before the next is played, so that one output is held at a time.
 fn agrees<O: TieOrder + Copy>(
     rt: &HostRuntime,
     input: &[u8],
     stored: &[u8],
     order: O,
 ) -> anyhow::Result<bool> {
-    let table = rehearse(rt.alloc(), input, &mut Table::new(order))?;
-    let heap = rehearse(rt.alloc(), input, &mut Heap::new(order))?;
-    Ok(table.as_bytes() == stored && heap.as_bytes() == stored)
+    let table = prints(rt, input, stored, &mut Table::new(order))?;
+    let heap = prints(rt, input, stored, &mut Heap::new(order))?;
+    Ok(table && heap)
 }
 
 // Replays one rehearsal in both orders.
@@ -32,10 +44,9 @@ fn replay(rt: &HostRuntime, number: u32) -> anyhow::Result<bool> {
     let input = stored(rt, number, "in")?;
     let by_number = stored(rt, number, "number")?;
     let by_rate = stored(rt, number, "rate")?;
-    Ok(
-        agrees(rt, input.as_slice(), by_number.as_slice(), ByNumber)?
-            && agrees(rt, input.as_slice(), by_rate.as_slice(), ByRate)?,
-    )
+    let numbers_agree = agrees(rt, input.as_slice(), by_number.as_slice(), ByNumber)?;
+    let rates_agree = agrees(rt, input.as_slice(), by_rate.as_slice(), ByRate)?;
+    Ok(numbers_agree && rates_agree)
 }
 
 fn run(rt: &HostRuntime) -> anyhow::Result<()> {
