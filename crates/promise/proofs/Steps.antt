@@ -1,15 +1,18 @@
 -- Each change of one task makes nothing worse.
-use Rattle.std.proofs.Common.{◌≡◌, ℕ, ◌+◌, ◌-◌, ◌*◌, ◌<◌, ◌≤◌, true, length, get_or, set, Some, None, Option, ⊎_elim, mul-le-mul_right, mul-le-mul_left, mul-add, arith}
+use Rattle.std.proofs.Common.{◌≡◌, ℕ, ◌+◌, ◌-◌, ◌*◌, ◌<◌, ◌≤◌, true, false, length, get_or, set, Some, None, Option, ⊎_elim, mul-le-mul_right, mul-le-mul_left, mul-add, arith}
 use Rattle.controller.specs.Tasks.{Tasks}
 use Rattle.promise.specs.Feasible.{Feasible, NoWorse, owed, spare}
 use Rattle.rules.proofs.Changing.{PeriodFits, RateFits}
 use Rattle.rules.specs.Admission.{admitted}
-use Rattle.rules.specs.Changes.{deadline_at, may_lower, share, with_period, with_rate}
+use Rattle.rules.specs.Changes.{deadline_at, may_lower, moved_by, share, with_period, with_rate}
+use Rattle.rules.specs.Phases.{stepped}
 use Rattle.rules.specs.Sound.{Sound}
 use Rattle.rules.specs.declared.admission.Reservation.{Reservation}
+use Rattle.rules.specs.Tasks.{is_ready}
+use Rattle.rules.specs.declared.phases.Event.{Event}
 use Rattle.rules.specs.declared.tasks.Task.{Task}
 use Rattle.std.proofs.lemmas.List.Sums.{sum_by-set}
-use Rattle.std.proofs.lemmas.Bool.{cases_lt}
+use Rattle.std.proofs.lemmas.Bool.{cases_Bool, cases_lt}
 use Rattle.std.proofs.lemmas.Bool.Decides.{nat_tests}
 
 -- equal sums, taken so many times
@@ -48,3 +51,15 @@ period_no_worse T t period s f allowed u le =
     (λ (after : D ≤ u). let cap : R * (D - T) ≤ R * (u - T) = mul-le-mul_left R (omega arith) in grind (arith, nat_tests))
     (cases_lt u D))
     (cases_lt E D)
+
+-- fewer ticks left, and not behind after it: a task that waits, wakes or finishes
+pub moved_no_worse : (T : ℕ) (t : Task) (event : Event) (left : ℕ) → left ≤ t.left → (is_ready (stepped t.phase event) ≡ true → 1000 * left ≤ share T t) → NoWorse T (Some t) (Some (moved_by event left t))
+moved_no_worse T t event left less even u le =
+    ⊎_elim
+    (λ (ready : is_ready (stepped t.phase event) ≡ true). let few = even ready in grind (arith, nat_tests))
+    (λ (not' : is_ready (stepped t.phase event) ≡ false). grind (arith, nat_tests))
+    (cases_Bool (is_ready (stepped t.phase event)))
+
+-- a task that may be lowered may go at once
+pub gone_no_worse : (T : ℕ) (t : Task) → may_lower T t ≡ true → NoWorse T (Some t) None
+gone_no_worse T t may u le = grind (arith, nat_tests)

@@ -48,7 +48,7 @@ quiet_all T u [] all = refl
 quiet_all T u (x ∷ tasks) all = simp sum_by-cons (omega (arith, quiet_slot T u x all.0, quiet_all T u tasks all.1))
 
 -- a deadline that has come is dealt with: what is left of the job is dropped, and the next one starts even
-due_no_worse : (T : ℕ) (x : Option Task) → PassedSlot T x → NoWorse T x (due_at T x)
+pub due_no_worse : (T : ℕ) (x : Option Task) → PassedSlot T x → NoWorse T x (due_at T x)
 due_no_worse T x p u le = grind (arith, nat_tests)
 
 due_sums : (T u : ℕ) (tasks : Tasks) → T ≤ u → AllByRecursion (PassedSlot T) tasks → sum_by (owed T u) (map (due_at T) tasks) + sum_by (spare T u) tasks ≤ sum_by (owed T u) tasks + sum_by (spare T u) (map (due_at T) tasks)

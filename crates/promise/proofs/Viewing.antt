@@ -1,11 +1,11 @@
 -- The account and the controller agree: a task seen through its ledger is the task.
-use Rattle.std.proofs.Common.{◌≡◌, ℕ, ◌-◌, ◌<◌, [], ◌∷◌, map, length, get_or, None, Option, refl, arith}
+use Rattle.std.proofs.Common.{◌≡◌, ℕ, ◌-◌, ◌<◌, ◌≤◌, [], ◌∷◌, map, length, get_or, None, Option, refl, arith}
 use Rattle.controller.specs.Settling.{charged_in}
 use Rattle.controller.specs.Tasks.{Tasks}
 use Rattle.controller.specs.declared.states.Runs.{Runs}
 use Rattle.controller.specs.declared.states.Runs.TheVariants.{Idle, Task as runs-task}
 use Rattle.promise.proofs.Sheets.{FreshSlot}
-use Rattle.promise.specs.Account.{Ledger, Ledgers, changed_by, due, follows, given_in, in_slot, opened, passing, served, view}
+use Rattle.promise.specs.Account.{Ledger, Ledgers, changed_by, due, follows, forgone, given_in, in_slot, left_in, opened, passing, regranted, served, view}
 use Rattle.rules.specs.Changes.{becomes}
 use Rattle.rules.specs.Jobs.{charged, due_at}
 use Rattle.rules.specs.declared.changes.Change.{Change}
@@ -16,6 +16,13 @@ use Rattle.std.specs.List.{AllByRecursion}
 
 pub view-opened : (t : Task) → t.ran ≡ 0 → view (opened t) ≡ t
 view-opened t none = grind (arith, nat_tests)
+
+-- a change that moves the ticks through the grant, and one that gives some up, for any task that comes of it
+pub view-regranted : (u : Task) (a : Ledger) → u.ran ≡ a.job.given → view (regranted u a) ≡ u
+view-regranted u a ran = grind (arith, nat_tests)
+
+pub view-forgone : (u : Task) (a : Ledger) → u.ran ≡ a.job.given → u.left ≤ left_in a.job → view (forgone u a) ≡ u
+view-forgone u a ran less = grind (arith, nat_tests)
 
 pub view-changed : (T : ℕ) (how : Change) (a : Ledger) → view (changed_by T how a) ≡ becomes T (view a) how
 view-changed T how a = grind (arith, nat_tests)

@@ -13,7 +13,32 @@ use calls::stages::Stage;
 use controller::memory::TaskMemory;
 use ready::ReadyList;
 
+// Carries out the calls, one after another, and writes down each answer: as many as both slices have room for.
+fn answer_each<L: ReadyList>(
+    first: Stage,
+    calls: &[Call],
+    answers: &mut [Answer],
+    memory: &mut TaskMemory,
+    list: &mut L,
+) -> Stage
+    requires { TiedTo L.ReadyList L.Order.TieOrder.before first memory.old list.old }
+    ensures answers { answers.new ≡ written_over (answers_to L.Order.TieOrder.before (state_of first memory.old) (map asked_by calls.now)) answers.old }
+    ensures state { state_of result memory.new ≡ after_all L.Order.TieOrder.before (state_of first memory.old) (take (length answers.old) (map asked_by calls.now)) }
+    ensures list { L.ReadyList.held list.new ≡ map entry_of memory.new }
+    ensures tied { TiedTo L.ReadyList L.Order.TieOrder.before result memory.new list.new }
+{
+    let mut stage = first;
+    // Not a zip with the places: what is written through one, no clause tells afterwards.
+    let mut asked = calls.iter();
+    for answer in answers.iter_mut() {
+        let Some(call) = asked.next() else { break };
+        (stage, *answer) = stage.answer(*call, memory, list);
+    }
+    stage
+}
+
 // Carries out the calls, from a controller without tasks on, and writes down each answer: as many as both slices have room for.
+#[tactic(auto, using(crate::proofs::Keeping::promise_over))]
 pub fn carry_out<L: ReadyList>(
     calls: &[Call],
     answers: &mut [Answer],
@@ -26,12 +51,6 @@ pub fn carry_out<L: ReadyList>(
     ensures tied { TiedTo L.ReadyList L.Order.TieOrder.before result memory.new list.new }
     ensures promise { Promise L.Order.TieOrder.before fresh (map asked_by calls.now) answers.new }
 {
-    let mut stage = Stage::start(memory, list);
-    // Not a zip with the places: what is written through one, no clause tells afterwards.
-    let mut asked = calls.iter();
-    for answer in answers.iter_mut() {
-        let Some(call) = asked.next() else { break };
-        (stage, *answer) = stage.answer(*call, memory, list);
-    }
-    stage
+    let first = Stage::start(memory, list);
+    answer_each(first, calls, answers, memory, list)
 }

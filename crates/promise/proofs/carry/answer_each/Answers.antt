@@ -1,8 +1,6 @@
-use Rattle.std.proofs.Common.{◌≡◌, suc, ◌+◌, ◌-◌, ◌<◌, [], ◌∷◌, map, length, take, append_assoc, arith}
-use Rattle.calls.specs.Asking.{asked_by}
+use Rattle.std.proofs.Common.{◌≡◌, suc, ◌+◌, ◌-◌, ◌<◌, [], ◌∷◌, length, take, append_assoc, arith}
 use Rattle.promise.proofs.Carrying.{no_room}
-use Rattle.promise.proofs.Keeping.{promise_over}
-use Rattle.promise.proofs.carry.carry_out.Goals as goal
+use Rattle.promise.proofs.carry.answer_each.Goals as goal
 use Rattle.std.proofs.lemmas.Grind.{common_steps}
 use Rattle.std.proofs.lemmas.List.{drop_more, drop-set-lt, take_more_set}
 
@@ -22,11 +20,5 @@ loop-answer-preserved g c =
       c.answer.ensures.list,
     )
 
-pub returns-in_default-clause-promise : goal.returns-in_default-clause-promise
-returns-in_default-clause-promise g c = promise_over g.L.Order.TieOrder.before g.met.L.Order.TieOrder.lawful (map asked_by c.args.calls.now) c.args.answers.now _ (grind (arith, common_steps))
-
 pub returns-after-loop-answer-clause-answers : goal.returns-after-loop-answer-clause-answers
 returns-after-loop-answer-clause-answers g c = grind (arith, common_steps, no_room)
-
-pub returns-after-loop-answer-clause-promise : goal.returns-after-loop-answer-clause-promise
-returns-after-loop-answer-clause-promise g c = promise_over g.L.Order.TieOrder.before g.met.L.Order.TieOrder.lawful (map asked_by c.args.calls.now) c.args.answers.now _ (grind (arith, common_steps, no_room))

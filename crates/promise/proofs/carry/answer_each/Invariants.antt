@@ -1,8 +1,8 @@
 use Rattle.std.proofs.Common.{◌≡◌, ◌++◌, ◌-◌, map, length, take, drop}
-use Rattle.calls.specs.Answering.{after_all, answers_to, start}
+use Rattle.calls.specs.Answering.{after_all, answers_to}
 use Rattle.calls.specs.Asking.{asked_by}
 use Rattle.calls.specs.Stages.{TiedTo, state_of}
-use Rattle.promise.proofs.carry.carry_out.Given as goal
+use Rattle.promise.proofs.carry.answer_each.Given as goal
 use Rattle.promise.specs.Carrying.{written_over}
 use Rattle.rules.specs.Tasks.{entry_of}
 use Rattle.std.specs.Slice.Iter.{iter_rest}
@@ -14,6 +14,7 @@ invariant-loop-answer g l =
     let rest = map asked_by (iter_rest l.asked) in
     let asked = map asked_by l.calls in
     let s = state_of l.stage l.memory in
+    let start = state_of l.fn.first l.initial.memory in
     (take l.answer-index l.answers ++ written_over (answers_to before s rest) (drop l.answer-index l.answers) ≡ written_over (answers_to before start asked) l.initial.answers)
     × (after_all before s (take (length l.initial.answers - l.answer-index) rest) ≡ after_all before start (take (length l.initial.answers) asked))
     × TiedTo g.L.ReadyList before l.stage l.memory l.list
