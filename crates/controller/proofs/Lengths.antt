@@ -1,6 +1,7 @@
 -- What begin rests on: no deadline lies behind the clock, and a task that is handed the processor has a tick left.
 use Rattle.std.proofs.Common.{◌≡◌, ℕ, ◌-◌, ◌^◌, ◌<◌, min, Bool, true, false, ltb, [], ◌∷◌, length, get_or, Some, None, fold, Option, sym, ap, ◌∙◌, ⊎_elim, arith}
 use Rattle.controller.specs.Tasks.{Mirrors, Tasks}
+use Rattle.controller.specs.Tied.{InTable}
 use Rattle.controller.specs.Turns.{length_of, nearest}
 use Rattle.order.specs.declared.entries.Entry.{Entry}
 use Rattle.ready.proofs.Slots.{slot_at-some}
@@ -21,6 +22,11 @@ nearest_from T bound (Some t ∷ tasks) lt all = nearest_from T (min bound t.dea
 
 pub nearest_after : (T : ℕ) (tasks : Tasks) → T < 2 ^ 40 → AllByRecursion (SoundSlot T) tasks → T < nearest tasks
 nearest_after T tasks lt all = nearest_from T (2 ^ 40) tasks lt all
+
+-- the first entry's number is that of a slot
+pub first_in_table : (before : Entry → Entry → Bool) (held : Held) (first : Option Entry) → Least before held first → InTable first
+first_in_table before held None least = tt
+first_in_table before held (Some e) least = let h = slot_at-some held e.number e least.is_held in (omega (arith, h.0), h.1)
 
 -- an entry stands for a task with a tick left
 entry_left : (slot : Option Task) (e : Entry) → entry_of slot ≡ Some e → 0 < left_of slot
