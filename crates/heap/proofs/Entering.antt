@@ -3,7 +3,7 @@ use Rattle.std.proofs.Common.{◌≡◌, ℕ, ◌+◌, ◌-◌, ◌<◌, ◌≤�
 use Rattle.heap.proofs.Paths.{as_held, by}
 use Rattle.heap.proofs.Moves.{entry_kept, entry_laid, place_kept, place_laid, resized}
 use Rattle.heap.proofs.Standing.{count_set, held_is, numbered}
-use Rattle.heap.specs.Sifts.{Holed}
+use Rattle.heap.specs.Sifts.{BeforeChildren, Holed}
 use Rattle.heap.specs.Sound.{Ordered, Sound, Stands, entry_in, held_in, laid, parent, place_in}
 use Rattle.heap.specs.declared.memory.Tree.{Tree}
 use Rattle.order.specs.Orders.{in_range}
@@ -58,18 +58,23 @@ module _ (tree : Tree) (held : Held) (s : Stands tree held) (e : Entry) (range :
       }
 
   -- only the step up from the new entry may be out of order
-  holed_put : (before : Entry → Entry → Bool) → Ordered before tree → Holed before (set held (e.number - 1) (Some e)) (grown tree room e) tree.len
-  holed_put before ordered = record {
-    stands = stands_put;
-    within = omega arith;
-    others = λ k lk lt nk np. by before (entry_kept tree tree.len e (parent k) np) (entry_kept tree tree.len e k nk) (ordered k lk (omega arith));
-    across = λ k lk lt child low. absurd (omega arith);
-  }
+  holed_put : (before : Entry → Entry → Bool) → Ordered before tree → Holed before (set held (e.number - 1) (Some e)) (grown tree room e) tree.len × BeforeChildren before (grown tree room e) tree.len
+  holed_put before ordered = (
+    record {
+      stands = stands_put;
+      within = omega arith;
+      others = λ k lk lt nk np. by before (entry_kept tree tree.len e (parent k) np) (entry_kept tree tree.len e k nk) (ordered k lk (omega arith));
+      across = λ k lk lt child low. absurd (omega arith);
+    },
+    λ k lk lt child. absurd (omega arith),
+  )
 
 -- what push may say of an entry whose number the tree does not hold
 pub record Entering (before : Entry → Entry → Bool) (tree : Tree) (room : tree.len + 1 ≤ 64) (e : Entry) : Type 0 where
   pub list : held_in (grown tree room e) ≡ put_in (held_in tree) e
   pub holed : Holed before (held_in (grown tree room e)) (grown tree room e) tree.len
+  -- nothing is below the last place
+  pub below : BeforeChildren before (grown tree room e) tree.len
 
 module _ (before : Entry → Entry → Bool) (tree : Tree) (ok : Sound before tree) (e : Entry) (is : free (held_in tree) e.number ≡ true) where
   range_put : in_range e.number ≡ true
@@ -85,8 +90,9 @@ module _ (before : Entry → Entry → Bool) (tree : Tree) (ok : Sound before tr
   entering room =
       let held = held_in tree in
       let held' = set held (e.number - 1) (Some e) in
-      let holed = holed_put tree held ok.stands e range_put free_put room before ok.ordered in
+      let open' = holed_put tree held ok.stands e range_put free_put room before ok.ordered in
       record {
-        list = held_is (grown tree room e) held' holed.stands ∙ sym (cond-true (free held e.number) held' held is);
-        holed = as_held before (grown tree room e) held' tree.len holed;
+        list = held_is (grown tree room e) held' open'.0.stands ∙ sym (cond-true (free held e.number) held' held is);
+        holed = as_held before (grown tree room e) held' tree.len open'.0;
+        below = open'.1;
       }

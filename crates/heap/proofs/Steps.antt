@@ -180,7 +180,7 @@ pub record Turned (before : Entry → Entry → Bool) (held : Held) (tree : Tree
 
 module _ (before : Entry → Entry → Bool) (laws : Lawful before) (tree : Tree) (held : Held) (h : ℕ) (x : Entry) (o : Holed before held (laid tree h x) h) (c : ℕ) (is : Some c ≡ next_place before tree h x) where
   -- the next place is another place of the tree
-  next_within : (c < tree.len) × (c ≡ h → ⊥)
+  pub next_within : (c < tree.len) × (c ≡ h → ⊥)
   next_within = ⊎_elim
       (λ (up : (rises before tree h x ≡ true) × (Some c ≡ Some (parent h))).
       let low = (rises_yes before laws tree held h x o (sym up.0)).0 in

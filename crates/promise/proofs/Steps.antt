@@ -52,7 +52,7 @@ period_no_worse T t period s f allowed u le =
     (cases_lt u D))
     (cases_lt E D)
 
--- fewer ticks left, and not behind after it: a task that waits, wakes or finishes
+-- fewer ticks left, and not behind after it: a task that waits, wakes or finishes, and in general
 pub moved_no_worse : (T : ℕ) (t : Task) (event : Event) (left : ℕ) → left ≤ t.left → (is_ready (stepped t.phase event) ≡ true → 1000 * left ≤ share T t) → NoWorse T (Some t) (Some (moved_by event left t))
 moved_no_worse T t event left less even u le =
     ⊎_elim
@@ -60,6 +60,6 @@ moved_no_worse T t event left less even u le =
     (λ (not' : is_ready (stepped t.phase event) ≡ false). grind (arith, nat_tests))
     (cases_Bool (is_ready (stepped t.phase event)))
 
--- a task that may be lowered may go at once
+-- a task that may be lowered may go at once, whatever its phase
 pub gone_no_worse : (T : ℕ) (t : Task) → may_lower T t ≡ true → NoWorse T (Some t) None
 gone_no_worse T t may u le = grind (arith, nat_tests)

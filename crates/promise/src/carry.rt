@@ -13,7 +13,7 @@ use calls::stages::Stage;
 use controller::memory::TaskMemory;
 use ready::ReadyList;
 
-// Carries out the calls, one after another, and writes down each answer: as many as both slices have room for.
+// The loop of `carry_out`, from any stage on.
 fn answer_each<L: ReadyList>(
     first: Stage,
     calls: &[Call],
